@@ -1,2 +1,2 @@
 mod NamedFacts
-pub mod Laws
+pub mod TableLaws

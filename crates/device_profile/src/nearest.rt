@@ -1,5 +1,6 @@
 //! Which resident face is nearest to a font that is asked for.
 ghost use Rattle.std.specs.Prelude.{◌≡◌, ◌≤◌};
+ghost use Rattle.std.specs.Ordering.{int_eq};
 ghost use Rattle.device_profile.specs.Nearest.{
   is_same_set,
   nearer,
@@ -24,6 +25,12 @@ fn is_same_set(a: &FontRequest, b: &FontRequest) -> bool
     a.symbol_set.number == b.symbol_set.number && a.symbol_set.letter == b.symbol_set.letter
 }
 
+fn is_same_weight(a: &FontRequest, b: &FontRequest) -> bool
+    ensures { result ≡ int_eq a.now.weight b.now.weight }
+{
+    a.weight == b.weight
+}
+
 /// In how many of the seven parts the two are the same.
 #[tactic(auto, unfolding(crate::specs::Nearest::parts_met))]
 fn parts_met(a: &FontRequest, b: &FontRequest) -> u64
@@ -34,7 +41,7 @@ fn parts_met(a: &FontRequest, b: &FontRequest) -> u64
         + part(a.pitch == b.pitch)
         + part(a.height == b.height)
         + part(a.style == b.style)
-        + part(a.weight == b.weight)
+        + part(is_same_weight(a, b))
         + part(a.typeface == b.typeface)
 }
 

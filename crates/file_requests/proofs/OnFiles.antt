@@ -1,18 +1,20 @@
 -- What commands leave on files that are new.
-use Rattle.std.proofs.Common.{◌≡◌, ◌∙◌, ◌⊎◌, ◌||◌, ◌++◌, ◌∷◌, ℕ, Bool, IsTrue, List, [], Option, ap, false, inl, inr, refl, subst, sym}
-use Rattle.std.proofs.Common.{true}
-use Rattle.profile_commands.specs.ProfileFromPjl.{LeavesAnswered}
+use Rattle.std.proofs.Common.{◌≡◌, ◌∙◌, ◌⊎◌, ◌||◌, ◌++◌, ◌∷◌, ℕ, Bool, IsTrue, List, [], None, Option, Some, ap, append-nil, false, inl}
+use Rattle.std.proofs.Common.{inr, map, refl, subst, sym, true}
+use Rattle.std.specs.Prelude.{option_to_list}
+use Rattle.profile_commands.specs.ProfileFromPjl.{AsksBaseIfAny, LeavesAnswered}
 use Rattle.profile_commands.specs.ProfileLint.{LeavesLint}
 use Rattle.profile_commands.specs.ProfileSheet.{LeavesSheet}
 use Rattle.profile_commands.specs.ProfileShow.{LeavesShown}
 use Rattle.picture_command.specs.Picture.{Around, HasNoEnd, IsNamedBy, LeavesPicture}
 use Rattle.renderings.specs.Due.{Rendering, plain_rendering}
 use Rattle.streams.specs.declared.error.Error.TheVariants.{Turns}
-use Rattle.streams.proofs.Uses.{one_behind, one_more, one_read, one_written, texts_read}
+use Rattle.streams.proofs.Uses.{one_behind, one_more, one_read, one_written, others_behind, texts_read}
+use Rattle.streams.specs.Ended.{JobRead}
 use Rattle.streams.specs.Files.{FileOutletState, no_outlet, no_source}
 use Rattle.streams.specs.Outlet.{OutletState}
 use Rattle.streams.specs.Source.{SourceState}
-use Rattle.streams.specs.Used.{FileUse, TextsAt, read_at, written_at}
+use Rattle.streams.specs.Used.{FileUse, TextsAt, read_at, read_of_job, written_at}
 use Rattle.named_inputs.specs.Choices.{TellsOfPin}
 use Rattle.named_inputs.proofs.InputUses.{file_read, input_read}
 use Rattle.named_inputs.specs.FileJobs.{is_input, reads_named}
@@ -36,19 +38,29 @@ use Rattle.file_requests.specs.ProfileRequests.{LeavesAnsweredFor, LeavesLintFor
 -- ---- profiles
 
 pub lint_left : (words given texts : List (List ℕ)) (failed : Bool) (status : Status) (out out' err err' : OutletState)
-    → given ≡ [] → LeavesLint text_named words given texts failed status out out' err err' → LeavesLintFor words status out out' err err'
-lint_left words given texts failed status out out' err err' none left = record {
+    (unasked named : List (List ℕ)) (used used' : List FileUse)
+    → given ≡ [] → LeavesLint text_named words given texts failed status out out' err err'
+    → unasked ≡ [] → AsksInOrder words unasked named → used' ≡ used ++ TextsAt named texts failed ∷ []
+    → LeavesLintFor words status used used' out out' err err'
+lint_left words given texts failed status out out' err err' unasked named used used' none left unnamed order told = record {
   texts = texts;
   failed = failed;
+  asked = order.0;
+  later = order.1;
+  in_order = order.2;
+  used_are = texts_read used used' unasked named texts order.0 failed unnamed order.3 told;
   left = subst (λ g. LeavesLint text_named words g texts failed status out out' err err') none left;
 }
 
 pub shown_left : (word : List ℕ) (given texts : List (List ℕ)) (failed : Bool) (status : Status) (out out' err err' : OutletState)
+    (before named : List (List ℕ)) (used used' : List FileUse)
     → given ≡ [] → LeavesShown (text_named word) word given texts failed status out out' err err'
-    → LeavesShownFor word status out out' err err'
-shown_left word given texts failed status out out' err err' none left = record {
+    → before ≡ [] → named ≡ before ++ word ∷ [] → used' ≡ used ++ TextsAt named texts failed ∷ []
+    → LeavesShownFor word status used used' out out' err err'
+shown_left word given texts failed status out out' err err' before named used used' none left unnamed are told = record {
   texts = texts;
   failed = failed;
+  used_are = texts_read used used' before named texts (word ∷ []) failed unnamed are told;
   left = subst (λ g. LeavesShown (text_named word) word g texts failed status out out' err err') none left;
 }
 
@@ -88,46 +100,69 @@ sheet_left word into to given texts failed answer status out file err err' file'
       put = puts_out into answer status file file' end;
     }
 
+-- the text of the base was asked for, or none was
+base_asked : (base : Option (List ℕ)) (old new : List (List ℕ)) → AsksBaseIfAny base old new → AsksInOrder (option_to_list base) old new
+base_asked (Some word) old new (inl one) = (word ∷ [], [], refl, one)
+base_asked (Some word) old new (inr same) = ([], word ∷ [], refl, same ∙ sym (append-nil old))
+base_asked None old new (inl same) = ([], [], refl, same ∙ sym (append-nil old))
+base_asked None old new (inr same) = ([], [], refl, same ∙ sym (append-nil old))
+
 answered_left : (answer : List ℕ) (base : Option (List ℕ)) (given texts : List (List ℕ)) (failed : Bool) (status : Status)
-    (source source' : SourceState) (out out' err err' : OutletState) (used used' : List FileUse)
+    (source source' : SourceState) (out out' err err' : OutletState) (before named : List (List ℕ)) (used between used' : List FileUse)
     → given ≡ [] → source ≡ no_source → LeavesAnswered source source' text_named answer base given texts failed status out out' err err'
-    → used' ≡ used ++ reads_named answer source' → LeavesAnsweredFor answer base status used used' out out' err err'
-answered_left answer base given texts failed status source source' out out' err err' used used' none new left uses = record {
-  source = source';
-  texts = texts;
-  failed = failed;
-  left =
-      subst (λ s. LeavesAnswered s source' text_named answer base [] texts failed status out out' err err') new
-      (subst (λ g. LeavesAnswered source source' text_named answer base g texts failed status out out' err err') none left);
-  used_are = uses;
-}
+    → before ≡ [] → AsksBaseIfAny base before named → between ≡ used ++ TextsAt named texts failed ∷ []
+    → used' ≡ between ++ reads_named answer source' → LeavesAnsweredFor answer base status used used' out out' err err'
+answered_left answer base given texts failed status source source' out out' err err' before named used between used' none new left
+    unnamed asks told read =
+    let order = base_asked base before named asks in
+    record {
+      source = source';
+      texts = texts;
+      failed = failed;
+      asked = order.0;
+      later = order.1;
+      in_order = order.2;
+      used_are =
+          others_behind used between used' (TextsAt order.0 texts failed) (reads_named answer source')
+          (texts_read used between before named texts order.0 failed unnamed order.3 told) read;
+      left =
+          subst (λ s. LeavesAnswered s source' text_named answer base [] texts failed status out out' err err') new
+          (subst (λ g. LeavesAnswered source source' text_named answer base g texts failed status out out' err err') none left);
+    }
 
 -- so where the answer is standard input
 pub answered_by_input : (answer : List ℕ) (base : Option (List ℕ)) (given texts : List (List ℕ)) (failed : Bool) (status : Status)
-    (source source' : SourceState) (out out' err err' : OutletState) (used : List FileUse)
+    (source source' : SourceState) (out out' err err' : OutletState) (before named : List (List ℕ)) (used used' : List FileUse)
     → given ≡ [] → source ≡ no_source → LeavesAnswered source source' text_named answer base given texts failed status out out' err err'
-    → is_input answer ≡ true → LeavesAnsweredFor answer base status used used out out' err err'
-answered_by_input answer base given texts failed status source source' out out' err err' used none new left is =
-    answered_left answer base given texts failed status source source' out out' err err' used used none new left
-    (input_read used answer source' is)
+    → before ≡ [] → AsksBaseIfAny base before named → used' ≡ used ++ TextsAt named texts failed ∷ []
+    → is_input answer ≡ true → LeavesAnsweredFor answer base status used used' out out' err err'
+answered_by_input answer base given texts failed status source source' out out' err err' before named used used' none new left unnamed
+    asks told is =
+    answered_left answer base given texts failed status source source' out out' err err' before named used used' used' none new left
+    unnamed asks told (input_read used' answer source' is)
 
 -- and where it is a file
 pub answered_by_file : (answer at : List ℕ) (base : Option (List ℕ)) (given texts : List (List ℕ)) (failed : Bool) (status : Status)
-    (source source' : SourceState) (out out' err err' : OutletState) (used used' : List FileUse)
+    (source source' : SourceState) (out out' err err' : OutletState) (before named : List (List ℕ)) (used between used' : List FileUse)
     → given ≡ [] → source ≡ no_source → LeavesAnswered source source' text_named answer base given texts failed status out out' err err'
-    → is_input answer ≡ false → at ≡ answer → used' ≡ used ++ read_at at source' ∷ []
+    → before ≡ [] → AsksBaseIfAny base before named → between ≡ used ++ TextsAt named texts failed ∷ []
+    → is_input answer ≡ false → at ≡ answer → used' ≡ between ++ read_at at source' ∷ []
     → LeavesAnsweredFor answer base status used used' out out' err err'
-answered_by_file answer at base given texts failed status source source' out out' err err' used used' none new left is place read =
-    answered_left answer base given texts failed status source source' out out' err err' used used' none new left
-    (file_read used used' answer at source' is place read)
+answered_by_file answer at base given texts failed status source source' out out' err err' before named used between used' none new left
+    unnamed asks told is place read =
+    answered_left answer base given texts failed status source source' out out' err err' before named used between used' none new left
+    unnamed asks told (file_read between used' answer at source' is place read)
 
 -- ---- jobs
 
-pub survey_left : (paths : List (List ℕ)) (form : Form) (jobs jobs' : List SourceState) (status : Status)
-    (out out' err err' : OutletState) → jobs ≡ []
-    → LeavesSurvey form paths (λ path. no_source) status jobs jobs' out out' err err' → LeavesSurveyOf paths form status out out' err err'
-survey_left paths form jobs jobs' status out out' err err' none left = record {
+pub survey_left : (paths : List (List ℕ)) (form : Form) (jobs jobs' : List JobRead) (status : Status)
+    (used used' : List FileUse) (out out' err err' : OutletState) → jobs ≡ []
+    → used' ≡ used ++ map read_of_job jobs'
+    → LeavesSurvey form paths (λ path. no_source) status jobs jobs' out out' err err'
+    → LeavesSurveyOf paths form status used used' out out' err err'
+survey_left paths form jobs jobs' status used used' out out' err err' none told left = record {
   jobs = jobs';
+  used_are = told;
   left = subst (λ j. LeavesSurvey form paths (λ path. no_source) status j jobs' out out' err err') none left;
 }
 

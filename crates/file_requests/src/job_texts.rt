@@ -62,21 +62,25 @@ pub fn list<R: Files + AllocGlobal, O: Outlet>(
     status
 }
 
-/// Surveys the jobs at paths, of which none is told in the history.
+/// Surveys the jobs at paths.
 pub fn survey_files<'r, R: Files + Input + AllocGlobal, O: Outlet, E: Outlet>(
     rt: &'r R,
     jobs: &[&'r str],
     form: Form,
+    used: &mut FilesUsed,
     stdout: &mut O,
     stderr: &mut E,
 ) -> Status
     requires stdout { IsFalse (O.state stdout.old).failed }
     requires stderr { IsFalse (E.state stderr.old).failed }
     ensures { LeavesSurveyOf (map (λ job. job.now) jobs.now) form result
-        (O.state stdout.old) (O.state stdout.new) (E.state stderr.old) (E.state stderr.new) }
+        used.old used.new (O.state stdout.old) (O.state stdout.new)
+        (E.state stderr.old) (E.state stderr.new) }
 {
     let mut files = FileJobs::new(rt);
-    survey_jobs(rt.alloc(), &mut files, jobs, form, stdout, stderr)
+    let status = survey_jobs(rt.alloc(), &mut files, jobs, form, stdout, stderr);
+    files.tell(used);
+    status
 }
 
 /// Writes what the job at a path marks on its pages, on the printer that a word names.

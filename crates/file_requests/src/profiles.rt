@@ -1,7 +1,8 @@
 //! What the program does on profiles by request, on files.
-ghost use Rattle.std.specs.Prelude.{IsFalse, map, option_map};
+ghost use Rattle.std.specs.Prelude.{IsFalse, IsTrue, map, option_map};
 ghost use Rattle.file_requests.specs.ProfileRequests.{LeavesAnsweredFor, LeavesLintFor};
 ghost use Rattle.file_requests.specs.ProfileRequests.{LeavesSheetFor, LeavesShownFor};
+ghost use Rattle.named_inputs.specs.FileJobs.{is_input};
 
 use crate::outs::end_out;
 use named_inputs::{FileJobs, FileTexts, Jobs, is_input};
@@ -18,32 +19,38 @@ use streams::{FilesUsed, Outlet, OutletAt, SourceAt};
 pub fn lint<R: Files + AllocGlobal, O: Outlet, E: Outlet>(
     rt: &R,
     words: &[&str],
+    used: &mut FilesUsed,
     stdout: &mut O,
     stderr: &mut E,
 ) -> Status
     requires stdout { IsFalse (O.state stdout.old).failed }
     requires stderr { IsFalse (E.state stderr.old).failed }
-    ensures { LeavesLintFor (map (λ word. word.now) words.now) result
+    ensures { LeavesLintFor (map (λ word. word.now) words.now) result used.old used.new
         (O.state stdout.old) (O.state stdout.new) (E.state stderr.old) (E.state stderr.new) }
 {
     let mut texts = FileTexts::new(rt);
-    profile_lint(rt.alloc(), &mut texts, words, stdout, stderr)
+    let status = profile_lint(rt.alloc(), &mut texts, words, stdout, stderr);
+    texts.end(used);
+    status
 }
 
 /// Shows a profile.
 pub fn show<R: Files + AllocGlobal, O: Outlet, E: Outlet>(
     rt: &R,
     word: &str,
+    used: &mut FilesUsed,
     stdout: &mut O,
     stderr: &mut E,
 ) -> Status
     requires stdout { IsFalse (O.state stdout.old).failed }
     requires stderr { IsFalse (E.state stderr.old).failed }
-    ensures { LeavesShownFor word.now result
+    ensures { LeavesShownFor word.now result used.old used.new
         (O.state stdout.old) (O.state stdout.new) (E.state stderr.old) (E.state stderr.new) }
 {
     let mut texts = FileTexts::new(rt);
-    profile_show(rt.alloc(), &mut texts, word, stdout, stderr)
+    let status = profile_show(rt.alloc(), &mut texts, word, stdout, stderr);
+    texts.end(used);
+    status
 }
 
 /// Writes the sheet of a profile in the place of the file at a path.
@@ -83,20 +90,11 @@ pub fn from_pjl<R: Files + Input + AllocGlobal, O: Outlet, E: Outlet>(
         used.old used.new
         (O.state stdout.old) (O.state stdout.new) (E.state stderr.old) (E.state stderr.new) }
 {
-    let mut texts = FileTexts::new(rt);
     if is_input(answer.as_bytes()) {
-        let mut input = FileJobs::new(rt).job(answer.as_bytes());
-        return profile_from_pjl(
-            rt.alloc(),
-            &mut input,
-            answer,
-            &mut texts,
-            base,
-            stdout,
-            stderr,
-        );
+        return from_input(rt, answer, base, used, stdout, stderr);
     }
     let mut source = SourceAt::new(rt, answer);
+    let mut texts = FileTexts::new(rt);
     let status = profile_from_pjl(
         rt.alloc(),
         &mut source.file,
@@ -106,6 +104,38 @@ pub fn from_pjl<R: Files + Input + AllocGlobal, O: Outlet, E: Outlet>(
         stdout,
         stderr,
     );
+    texts.end(used);
     used.read(source);
+    status
+}
+
+/// The same for the answer on standard input.
+fn from_input<R: Files + Input + AllocGlobal, O: Outlet, E: Outlet>(
+    rt: &R,
+    answer: &str,
+    base: Option<&str>,
+    used: &mut FilesUsed,
+    stdout: &mut O,
+    stderr: &mut E,
+) -> Status
+    requires stdout { IsFalse (O.state stdout.old).failed }
+    requires stderr { IsFalse (E.state stderr.old).failed }
+    requires input { IsTrue (is_input answer.now) }
+    ensures { LeavesAnsweredFor answer.now (option_map (λ word. word.now) base.entry) result
+        used.old used.new
+        (O.state stdout.old) (O.state stdout.new) (E.state stderr.old) (E.state stderr.new) }
+{
+    let mut input = FileJobs::new(rt).job(answer.as_bytes());
+    let mut texts = FileTexts::new(rt);
+    let status = profile_from_pjl(
+        rt.alloc(),
+        &mut input,
+        answer,
+        &mut texts,
+        base,
+        stdout,
+        stderr,
+    );
+    texts.end(used);
     status
 }

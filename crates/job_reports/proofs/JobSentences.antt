@@ -55,7 +55,7 @@ use Rattle.job_reports.specs.Kinds.{kind_by}
 use Rattle.job_reports.specs.LeftOut.{left_out_of, value_words}
 use Rattle.job_reports.specs.RefusedNames.{called, refused_name, value_key, value_name}
 use Rattle.command_names.specs.CommandNames.{command_name}
-use Rattle.command_names.proofs.Laws.{name_is_short}
+use Rattle.command_names.proofs.TableLaws.{name_is_short}
 use Rattle.job_reports.specs.declared.kind.Kind.{Kind}
 use Rattle.job_reports.specs.declared.kind.Kind.TheVariants as kinds
 use Rattle.job_reports.specs.declared.left_out.LeftOut.{LeftOut}

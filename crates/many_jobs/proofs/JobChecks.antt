@@ -5,6 +5,8 @@ use Rattle.std.proofs.Common.{sym, ◌∙◌, ap, append_assoc, append-nil, inl,
 use Rattle.std.proofs.Math.Seq.{split_at}
 use Rattle.std.specs.List.{AllByRecursion, range_with_len}
 use Rattle.std.proofs.lemmas.List.{length-take, map-append, map_more}
+use Rattle.std.proofs.lemmas.List.Elements.{Contains-append_left, Contains-append_right}
+use Rattle.std.specs.Prelude.{Contains}
 use Rattle.device_profile.specs.Printer.{Printer}
 use Rattle.preflight.specs.Verdict.{IsExact, VerdictHolds, NeedsEachRead}
 use Rattle.job_reports.specs.Right.{IsRightVerdict}
@@ -14,15 +16,17 @@ use Rattle.std.proofs.lemmas.List.FromFn.{map-range_with_len_more}
 use Rattle.streams.specs.declared.error.Error.{Error}
 use Rattle.streams.specs.declared.error.Error.TheVariants.{Memory, Read, Write, Turns, NoProfile, Items}
 use Rattle.preflight.specs.declared.culprit.Judgement.{Judgement}
+use Rattle.streams.specs.Ended.{JobRead, job_read}
 use Rattle.streams.specs.Outlet.{OutletState, Adds, AddsFront}
 use Rattle.streams.specs.Source.{SourceState}
 use Rattle.streams.proofs.OutletFacts.{Adds-none, Adds-trans}
 use Rattle.many_jobs.specs.declared.ending.Ending.{Ending}
 use Rattle.many_jobs.specs.declared.ending.Ending.TheVariants.{Passes, Fails, HasNoVerdict}
 use Rattle.job_reports.specs.Groups.{Groups, group_at, group_count, of_group, reported}
-use Rattle.many_jobs.specs.JobChecks.{AddsTold, AreRightToCut, CutsNotes, CutsTold, IsErrorOfJob, IsErrorOfLine, IsRightAnswer, IsRightLine}
+use Rattle.many_jobs.specs.JobChecks.{AddsTold, AreOfDue, AreRightToCut, CutsNotes, CutsTold, IsErrorOfJob, IsErrorOfLine}
+use Rattle.many_jobs.specs.JobChecks.{IsRightAnswer, IsRightLine}
 use Rattle.many_jobs.specs.JobChecks.{CheckLine, TellsLines, TellsAll, TellsFront, TellsNotes, Work, afters, afters_of, due_of, ending_of}
-use Rattle.many_jobs.specs.JobChecks.{ending_of_line, keyed, line_text, worse, worst}
+use Rattle.many_jobs.specs.JobChecks.{ending_of_line, job_due, keyed, line_text, worse, worst}
 use Rattle.many_jobs.specs.JobNoting.{IsRightlyNoted, Noted, ending_of_notes, note_printer, notes_text}
 use Rattle.notes.specs.Note.{Told as ToldNote}
 use Rattle.many_jobs.specs.NoteReports.{subject_of, told_note}
@@ -75,6 +79,19 @@ All-append : {X : Type 0} (P : X → Type 0) (xs ys : List X) → AllByRecursion
 All-append P [] ys first second = second
 All-append P (x ∷ xs) ys first second = (first.0, All-append P xs ys first.1 second)
 
+-- they are of what is due among more
+of_due_among : (before due later : List (List ℕ × ℕ)) (reads : List JobRead) → AreOfDue due reads →
+    AreOfDue (before ++ (due ++ later)) reads
+of_due_among before due later [] all = tt
+of_due_among before due later (read ∷ reads) all = (
+  subst (λ (names : List (List ℕ)). Contains names read.name)
+      (sym (map-append job_due before (due ++ later) ∙ ap (λ (names : List (List ℕ)). map job_due before ++ names)
+      (map-append job_due due later)))
+      (Contains-append_right (map job_due before) (map job_due due ++ map job_due later) read.name
+      (Contains-append_left (map job_due due) (map job_due later) read.name all.0)),
+  of_due_among before due later reads all.1,
+)
+
 abbrev key : CheckLine → List ℕ × ℕ
 key line = (line.job, line.group)
 
@@ -120,6 +137,7 @@ module _ (groups : Groups) (telling : HowTold) (start : List ℕ → SourceState
           lines = first.0 ++ second.lines;
           later = second.later ++ later;
           untold = second.untold;
+          of_due = of_due_among due due' later second.untold second.of_due;
           in_order =
               ap (λ ks. ks ++ (second.later ++ later))
               (map-append key first.0 second.lines ∙ ap (λ ks. ks ++ map key second.lines) first.1.in_order)
@@ -160,7 +178,7 @@ module _ (groups : Groups) (telling : HowTold) (start : List ℕ → SourceState
     abbrev write_note : ToldNote → List ℕ
     write_note = told_note telling (subject_of group job)
 
-    module _ (old new : Work) (ended : new.ended ≡ old.ended ++ after ∷ []) where
+    module _ (old new : Work) (ended : new.ended ≡ old.ended ++ job_read job after ∷ []) where
       -- no notes are told
       pub tells_alone : (ending : Ending) → printer_of_notes ≡ None → AddsTold told old.out new.out →
           ending ≡ ending_of telling answer → TellsAll groups telling ((job, number) ∷ []) start ending old new
@@ -181,7 +199,8 @@ module _ (groups : Groups) (telling : HowTold) (start : List ℕ → SourceState
       cuts_line Memory same = record {
         lines = [];
         later = (job, number) ∷ [];
-        untold = after ∷ [];
+        untold = job_read job after ∷ [];
+        of_due = ((0, omega arith, refl), tt);
         in_order = refl;
         right = tt;
         written = ([], [], refl, subst (λ o. Adds old.out o []) (sym same) (Adds-none old.out));
@@ -193,6 +212,7 @@ module _ (groups : Groups) (telling : HowTold) (start : List ℕ → SourceState
             lines = line_with cut.0 None ∷ [];
             later = [];
             untold = [];
+            of_due = tt;
             in_order = refl;
             right = (inr (right, refl, refl), tt);
             written = subst (AddsFront old.out new.out) (sym (append-nil (text ++ []) ∙ append-nil text)) cut.1;
@@ -203,8 +223,8 @@ module _ (groups : Groups) (telling : HowTold) (start : List ℕ → SourceState
       cuts_line NoProfile cut = absurd cut
       cuts_line Items cut = absurd cut
 
-    module _ (printer : Printer) (has : printer_of_notes ≡ Some printer) (old mid new : Work) (ended : mid.ended ≡ old.ended ++ after ∷ [])
-        (adds : AddsTold told old.out mid.out) where
+    module _ (printer : Printer) (has : printer_of_notes ≡ Some printer) (old mid new : Work)
+        (ended : mid.ended ≡ old.ended ++ job_read job after ∷ []) (adds : AddsTold told old.out mid.out) where
       -- notes are told
       pub tells_noted : (noted : Noted) (ending ending' : Ending) →
           TellsNotes group telling printer (start job) job mid new (Adds mid.out new.out) noted →
@@ -220,7 +240,8 @@ module _ (groups : Groups) (telling : HowTold) (start : List ℕ → SourceState
               written =
                   subst (Adds old.out new.out) (sym (append-nil (text ++ notes)))
                   (Adds-trans old.out mid.out new.out text notes adds.1 tells.written);
-              ended = tells.ended ∙ ap (λ es. es ++ noted.after ∷ []) ended ∙ append_assoc old.ended (after ∷ []) (noted.after ∷ []);
+              ended = tells.ended ∙ ap (λ es. es ++ job_read job noted.after ∷ []) ended
+                  ∙ append_assoc old.ended (job_read job after ∷ []) (job_read job noted.after ∷ []);
             },
             ap (λ e. worse e ending') is ∙ ap (worse (ending_of telling answer)) is',
           )
@@ -233,7 +254,8 @@ module _ (groups : Groups) (telling : HowTold) (start : List ℕ → SourceState
           record {
             lines = line_with adds.0 None ∷ [];
             later = [];
-            untold = cut.0 ∷ [];
+            untold = job_read job cut.0 ∷ [];
+            of_due = ((0, omega arith, refl), tt);
             in_order = refl;
             right = (inr (right, refl, refl), tt);
             written = (
@@ -242,7 +264,8 @@ module _ (groups : Groups) (telling : HowTold) (start : List ℕ → SourceState
               refl,
               subst (λ o. Adds old.out o (text ++ [])) (sym cut.1) (subst (Adds old.out mid.out) (sym (append-nil text)) adds.1),
             );
-            ended = cut.2 ∙ ap (λ es. es ++ cut.0 ∷ []) ended ∙ append_assoc old.ended (after ∷ []) (cut.0 ∷ []);
+            ended = cut.2 ∙ ap (λ es. es ++ job_read job cut.0 ∷ []) ended
+                ∙ append_assoc old.ended (job_read job after ∷ []) (job_read job cut.0 ∷ []);
           }
       cuts_notes Write cut =
           let text = told adds.0 in
@@ -254,6 +277,7 @@ module _ (groups : Groups) (telling : HowTold) (start : List ℕ → SourceState
             lines = line_with adds.0 (Some noted) ∷ [];
             later = [];
             untold = [];
+            of_due = tt;
             in_order = refl;
             right = (inl (right, subst (λ printer. IsRightlyNoted write_note (start job) printer (Some noted)) (sym has) tells.right), tt);
             written = (
@@ -262,7 +286,8 @@ module _ (groups : Groups) (telling : HowTold) (start : List ℕ → SourceState
               append-nil (text ++ notes) ∙ ap (λ t. text ++ t) front.2 ∙ sym (append_assoc text front.0 front.1),
               Adds-trans old.out mid.out new.out text front.0 adds.1 front.3,
             );
-            ended = tells.ended ∙ ap (λ es. es ++ noted.after ∷ []) ended ∙ append_assoc old.ended (after ∷ []) (noted.after ∷ []);
+            ended = tells.ended ∙ ap (λ es. es ++ job_read job noted.after ∷ []) ended
+                ∙ append_assoc old.ended (job_read job after ∷ []) (job_read job noted.after ∷ []);
           }
       cuts_notes Read cut = absurd cut
       cuts_notes Turns cut = absurd cut
@@ -411,18 +436,20 @@ same_printers true given fleet printers by are =
 same_printers false given fleet printers by are = are
 
 pub of_texts : (known : List (Option (List ℕ))) (most : Option ℕ) (tells_notes : Bool) (groups : Groups) (fleet printers : List Printer)
-    (names given : List (List ℕ)) → groups.fleet ≡ map (limited most) fleet → groups.note_printers ≡ printers → groups.names ≡ names →
-    DescribeFleet known fleet → DescribeBy [] given fleet → AreNotePrinters tells_notes given printers → names ≡ map printer_name given →
-    AreOfTexts known most tells_notes groups
-of_texts known most tells_notes groups fleet printers names given fleet_is printers_are names_are described by are named = record {
-  fleet = fleet;
-  described = described;
-  texts = given;
-  read = subst (λ texts. DescribeFleet (map (λ text. Some text) texts) fleet) (sym by.1) by.2;
-  fleet_is = fleet_is;
-  note_printers = printers_are ∙ same_printers tells_notes given fleet printers by are;
-  names_are = names_are ∙ named;
-}
+    (names given before after : List (List ℕ)) → groups.fleet ≡ map (limited most) fleet → groups.note_printers ≡ printers
+    → groups.names ≡ names → DescribeFleet known fleet → DescribeBy before after fleet → DescribeBy [] given fleet
+    → AreNotePrinters tells_notes given printers → names ≡ map printer_name given → AreOfTexts known before after most tells_notes groups
+of_texts known most tells_notes groups fleet printers names given before after fleet_is printers_are names_are described read by are
+    named = record {
+      fleet = fleet;
+      described = described;
+      are_given = read;
+      texts = given;
+      read = subst (λ texts. DescribeFleet (map (λ text. Some text) texts) fleet) (sym by.1) by.2;
+      fleet_is = fleet_is;
+      note_printers = printers_are ∙ same_printers tells_notes given fleet printers by are;
+      names_are = names_are ∙ named;
+    }
 
 -- one more text gives one more of these printers
 pub note_printers_more : {X : Type 0} (bytes : X → List ℕ) (texts : List X) (i : ℕ) (d : X) (printers : List Printer) (printer : Printer) →

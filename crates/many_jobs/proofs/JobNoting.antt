@@ -10,6 +10,7 @@ use Rattle.renderings.specs.declared.outcome.Outcome.TheVariants.{Done as AllDon
 use Rattle.renderings.specs.Due.{IsDue, Renders, TextNeedsReads, TextStaysOpen}
 use Rattle.streams.specs.Errors.{is_err_of_read, is_read}
 use Rattle.streams.specs.Outlet.{OutletState, Adds}
+use Rattle.streams.specs.Ended.{job_read}
 use Rattle.streams.specs.Pieces.{ByReads}
 use Rattle.streams.specs.Source.{SourceState}
 use Rattle.verdict.specs.declared.reason.Reason.{Reason}
@@ -103,7 +104,7 @@ module _ (write : Told → List ℕ) (printer : Printer) (panel : Panel) (first 
 module _ (group : Groups) (telling : HowTold) (printer : Printer) (start after : SourceState) (job : List ℕ) (old new : Work)
     (notes : Result (List ℕ) Error)
     (right : AreRightNotes (told_note telling (subject_of group job)) printer start after notes)
-    (ended : new.ended ≡ old.ended ++ after ∷ []) where
+    (ended : new.ended ≡ old.ended ++ job_read job after ∷ []) where
   abbrev noted_with : Option (List ℕ) → Noted
   noted_with cause = record { after = after; notes = notes; cause = cause }
 

@@ -14,7 +14,7 @@ use Rattle.requests.specs.declared.status.Status.{Status}
 use Rattle.requests.specs.declared.status.Status.TheVariants.{Pass, Fail, Profile, Stopped, Told}
 use Rattle.requests.specs.declared.status.Trouble.TheVariants.{Refused, NoVerdict}
 use Rattle.requests.specs.Status.{is_stop_of_read}
-use Rattle.named_inputs.specs.Fleet.{DescribeFleet, IsEndOfFleet}
+use Rattle.named_inputs.specs.Fleet.{DescribeBy, DescribeFleet, IsEndOfFleet, RefusesBy}
 use Rattle.job_reports.specs.Groups.{Groups}
 use Rattle.many_jobs.specs.JobChecks.{IsErrorOfLine, TellsAll, TellsFront, Work, due_of}
 use Rattle.many_jobs.specs.Telling.{HowTold}
@@ -34,13 +34,14 @@ status_of HasNoVerdict = Told NoVerdict
 abbrev pub limited : Option ℕ → Printer → Printer
 limited most printer = record printer { most_items = most }
 
--- these are the printers of texts, with this limit: of those that are known, and of those that were read,
--- which also give their names; where notes are told they are told for the same printers, whose macros may
--- carry out a million items
-pub record AreOfTexts (known : List (Option (List ℕ))) (most : Option ℕ) (tells_notes : Bool)
-    (groups : Groups) : Type 0 where
+-- these are the printers of texts, with this limit: of those that are known, of those that were read between given
+-- and given', and of texts which also give their names; where notes are told they are told for the same printers,
+-- whose macros may carry out a million items
+pub record AreOfTexts (known : List (Option (List ℕ))) (given given' : List (List ℕ)) (most : Option ℕ)
+    (tells_notes : Bool) (groups : Groups) : Type 0 where
   pub fleet : List Printer
   pub described : DescribeFleet known fleet
+  pub are_given : DescribeBy given given' fleet
   pub texts : List (List ℕ)
   pub read : DescribeFleet (map (λ text. Some text) texts) fleet
   pub fleet_is : groups.fleet ≡ map (limited most) fleet
@@ -90,13 +91,14 @@ TellsRefusal format (Profile number line cause) words status err err' =
 TellsRefusal format (Stopped error) words status err err' = TellsStop format error status err err'
 TellsRefusal format end words status err err' = (status ≡ end) × (err' ≡ err)
 
--- The jobs are checked for the printers of these texts, all of which could be read. Or there is no fleet, and no line
--- is written and no job read; that a text could not be read is why just where a read of one failed.
-abbrev pub LeavesMany : List (Option (List ℕ)) → (read_failed : Bool) → Asked → (List ℕ → SourceState) → Status → Work →
-    Work → OutletState → OutletState → Type 0
-LeavesMany known read_failed asked start status old new err err' =
-    ((groups : Groups) × AreOfTexts known asked.most_items asked.tells_notes groups × (groups.is_each ≡ asked.is_each)
-    × IsFalse read_failed
+-- The jobs are checked for the printers of these texts, all of which could be read between given and given'.
+-- Or there is no fleet, and no line is written and no job read; that a text could not be read is why just where a read
+-- of one failed.
+abbrev pub LeavesMany : (known : List (Option (List ℕ))) → (given given' : List (List ℕ)) → (read_failed : Bool) →
+    Asked → (List ℕ → SourceState) → Status → Work → Work → OutletState → OutletState → Type 0
+LeavesMany known given given' read_failed asked start status old new err err' =
+    ((groups : Groups) × AreOfTexts known given given' asked.most_items asked.tells_notes groups
+    × (groups.is_each ≡ asked.is_each) × IsFalse read_failed
     × LeavesLines asked groups start status old new × (err' ≡ err))
-    ⊎ ((end : Status) × IsEndOfFleet known end × (read_failed ≡ is_stop_of_read end)
+    ⊎ ((end : Status) × IsEndOfFleet known end × RefusesBy given given' end × (read_failed ≡ is_stop_of_read end)
     × TellsRefusal asked.telling.format end asked.printers status err err' × (new ≡ old))

@@ -1,6 +1,6 @@
 -- What a check of many jobs leaves.
 use Rattle.std.specs.Prelude.{◌≡◌, ◌⊎◌, ℕ, ◌&&◌, false, List, [], ◌∷◌, ◌++◌, flat_map, map, fold, IsErrOf, Option, None}
-use Rattle.std.specs.Prelude.{Some, Result, Ok, Err, IfOk, IfErr, ⊤, if◌then◌else◌}
+use Rattle.std.specs.Prelude.{Contains, Some, Result, Ok, Err, IfOk, IfErr, ⊤, if◌then◌else◌}
 use Rattle.std.specs.List.{AllByRecursion, range_with_len}
 use Rattle.device_profile.specs.Printer.{Printer}
 use Rattle.streams.specs.declared.error.Error.{Error}
@@ -15,6 +15,7 @@ use Rattle.preflight.specs.Verdict.{PassesItems}
 use Rattle.verdict.specs.declared.verdict.Verdict.{Verdict}
 use Rattle.verdict.specs.Limits.{has_many_items}
 use Rattle.verdict.specs.declared.verdict.Verdict.TheVariants.{Pass as PassOf, Fail as FailOf}
+use Rattle.streams.specs.Ended.{JobRead, job_read}
 use Rattle.streams.specs.Pieces.{ByReads}
 use Rattle.streams.specs.Outlet.{OutletState, Adds, AddsFront}
 use Rattle.streams.specs.Source.{SourceState}
@@ -94,12 +95,12 @@ IsErrorOfLine Items = ⊥
 
 -- ---- lines
 
--- what stands written, and what the jobs gave that were ended
+-- what stands written, and the jobs that were ended, under their names
 pub record Work : Type 0 where
   pub out : OutletState
-  pub ended : List SourceState
+  pub ended : List JobRead
 
-abbrev pub work : OutletState → List SourceState → Work
+abbrev pub work : OutletState → List JobRead → Work
 work out ended = record { out = out; ended = ended }
 
 -- a line, and what stands below it: the job, the number of the group from 0, what reading the job led to, what came of
@@ -136,11 +137,11 @@ keyed job number = (job, number)
 abbrev pub due_of : Groups → List ℕ → List (List ℕ × ℕ)
 due_of groups job = map (keyed job) (range_with_len 0 (group_count groups))
 
--- what the readings of a job led to
-abbrev pub afters_of : CheckLine → List SourceState
-afters_of line = line.after ∷ noted_after line.noted
+-- the readings of a job, under its name
+abbrev pub afters_of : CheckLine → List JobRead
+afters_of line = job_read line.job line.after ∷ noted_after line.job line.noted
 
-abbrev pub afters : List CheckLine → List SourceState
+abbrev pub afters : List CheckLine → List JobRead
 afters lines = flat_map afters_of lines
 
 -- these lines stand there, one for each that is due, each right for what its job gave
@@ -171,13 +172,22 @@ AreRightToCut groups telling start (line ∷ lines) =
     (IsRightLine groups telling start line ⊎ (IsAnswered groups start line × (line.noted ≡ None) × (lines ≡ [])))
     × AreRightToCut groups telling start lines
 
+-- the job of a line that is due
+abbrev pub job_due : List ℕ × ℕ → List ℕ
+job_due due = due.0
+
+-- these are readings of jobs of lines that are due
+abbrev pub AreOfDue : List (List ℕ × ℕ) → List JobRead → Type 0
+AreOfDue due reads = AllByRecursion (λ (read : JobRead). Contains (map job_due due) read.name) reads
+
 -- Some first lines of those that are due are right, and a front of their text stands there;
 -- of the next job, or of the notes of the last one, perhaps there was no memory for the line.
 pub record TellsFront (groups : Groups) (telling : HowTold) (start : List ℕ → SourceState) (due : List (List ℕ × ℕ))
     (old new : Work) : Type 0 where
   pub lines : List CheckLine
   pub later : List (List ℕ × ℕ)
-  pub untold : List SourceState
+  pub untold : List JobRead
+  pub of_due : AreOfDue due untold
   pub in_order : map (λ line. (line.job, line.group)) lines ++ later ≡ due
   pub right : AreRightToCut groups telling start lines
   pub written : AddsFront old.out new.out (flat_map (line_text groups telling) lines)
@@ -200,12 +210,12 @@ pub record TellsNotes (group : Groups) (telling : HowTold) (printer : Printer) (
     (old new : Work) (Written : List ℕ → Type 0) (noted : Noted) : Type 0 where
   pub right : AreRightNotes (told_note telling (subject_of group job)) printer start noted.after noted.notes
   pub written : Written (notes_text telling group job noted.notes noted.cause)
-  pub ended : new.ended ≡ old.ended ++ noted.after ∷ []
+  pub ended : new.ended ≡ old.ended ++ job_read job noted.after ∷ []
 
 -- there was no memory for the line of an error, and nothing was written; or a front of what is due was
 abbrev pub CutsNotes : Error → Groups → HowTold → Printer → SourceState → List ℕ → Work → Work → Type 0
 CutsNotes Memory group telling printer start job old new =
-    (after : SourceState) × (new.out ≡ old.out) × (new.ended ≡ old.ended ++ after ∷ [])
+    (after : SourceState) × (new.out ≡ old.out) × (new.ended ≡ old.ended ++ job_read job after ∷ [])
 CutsNotes Write group telling printer start job old new =
     (noted : Noted) × TellsNotes group telling printer start job old new (AddsFront old.out new.out) noted
 CutsNotes _ group telling printer start job old new = ⊥

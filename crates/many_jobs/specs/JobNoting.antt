@@ -7,6 +7,7 @@ use Rattle.streams.specs.declared.error.Error.TheVariants.{Memory, Read, Turns}
 use Rattle.renderings.specs.declared.outcome.Outcome.{Outcome}
 use Rattle.renderings.specs.declared.outcome.Outcome.TheVariants.{Done}
 use Rattle.renderings.specs.Due.{IsDue, TextNeedsReads, TextStaysOpen}
+use Rattle.streams.specs.Ended.{JobRead, job_read}
 use Rattle.streams.specs.Pieces.{ByReads}
 use Rattle.streams.specs.Source.{SourceState}
 use Rattle.verdict.specs.declared.verdict.Verdict.{Verdict}
@@ -73,10 +74,10 @@ IsRightlyNoted write start None (Some noted) = ⊥
 IsRightlyNoted write start (Some printer) None = ⊥
 IsRightlyNoted write start (Some printer) (Some noted) = AreRightNotes write printer start noted.after noted.notes
 
--- what the second reading led to, where there was one
-abbrev pub noted_after : Option Noted → List SourceState
-noted_after None = []
-noted_after (Some noted) = noted.after ∷ []
+-- the second reading of a job, where there was one
+abbrev pub noted_after : List ℕ → Option Noted → List JobRead
+noted_after job None = []
+noted_after job (Some noted) = job_read job noted.after ∷ []
 
 -- what stands below the line of the job: the notes, or the line of the error
 abbrev pub notes_text : HowTold → Groups → List ℕ → Result (List ℕ) Error → Option (List ℕ) → List ℕ

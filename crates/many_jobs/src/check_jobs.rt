@@ -7,7 +7,7 @@ ghost use Rattle.many_jobs.specs.CheckMany.{refusal_text, status_of, unread_text
 ghost use Rattle.job_reports.specs.Refusals.{TellsLine};
 ghost use Rattle.named_inputs.specs.Fleet.{IsEndOfFleet};
 ghost use Rattle.many_jobs.specs.JobChecks.{work};
-ghost use Rattle.named_inputs.specs.Texts.{IsErrorOfReading};
+ghost use Rattle.named_inputs.specs.Texts.{AsksInOrder, IsErrorOfReading};
 ghost use Rattle.requests.specs.Status.{is_stop_of_read, is_stop_of_write};
 
 use crate::ending::Ending;
@@ -59,10 +59,13 @@ pub fn check_many<'n, J: Jobs<'n>, T: ProfileTexts, O: Outlet, E: Outlet, A: All
     requires stderr { IsFalse (E.state stderr.old).failed }
     requires some { asked.now.printers.now ≢ [] }
     ensures left { LeavesMany (map (λ word. T.text_of texts.old word.now) asked.now.printers.now)
-        (T.failed texts.new) (asked_for asked.now) (J.start jobs.old) result
+        (T.given texts.old) (T.given texts.new) (T.failed texts.new)
+        (asked_for asked.now) (J.start jobs.old) result
         (work (O.state stdout.old) (J.ended jobs.old))
         (work (O.state stdout.new) (J.ended jobs.new))
         (E.state stderr.old) (E.state stderr.new) }
+    ensures named { AsksInOrder (map (λ word. word.now) asked.now.printers.now)
+        (T.named texts.old) (T.named texts.new) }
     ensures read { is_stop_of_read result ≡ false }
     ensures write { (O.state stdout.new).failed ≡ is_stop_of_write result }
 {

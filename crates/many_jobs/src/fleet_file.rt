@@ -1,6 +1,6 @@
 //! A fleet as a text: a profile a line.
-ghost use Rattle.std.specs.Prelude.{◌≡◌, ◌++◌, IfErr, IfNone, IfOk, IsFalse, OnOk, option_map};
-ghost use Rattle.std.specs.Prelude.{string_bytes};
+ghost use Rattle.std.specs.Prelude.{◌≡◌, ◌∷◌, ◌++◌, [], IfErr, IfNone, IfOk, IsFalse, OnOk};
+ghost use Rattle.std.specs.Prelude.{option_map, string_bytes};
 ghost use Rattle.many_jobs.specs.FleetFile.{AddsBytes, AddsFleet, TellsOfFleet, fleet_words};
 ghost use Rattle.many_jobs.specs.FleetFile.{is_passed_over, is_sample, line_words, refused_fleet};
 ghost use Rattle.many_jobs.specs.FleetFile.{refused_text, word_of};
@@ -41,6 +41,7 @@ pub fn read_fleet_file<T: ProfileTexts, E: Outlet, A: Allocator + Copy>(
     requires stderr { IsFalse (E.state stderr.old).failed }
     ensures named { OnOk result (AddsFleet string_bytes (T.text_of texts.old) path.now
         (T.given texts.old) (T.given texts.new) words.old.items words.new.items) }
+    ensures asked { T.named texts.new ≡ T.named texts.old ++ path.now ∷ [] }
     ensures working { OnOk result (IsFalse (T.failed texts.new)) }
     ensures same { T.text_of texts.new ≡ T.text_of texts.old }
     ensures quiet { OnOk result (stderr.new ≡ stderr.old) }
@@ -65,6 +66,7 @@ fn gather_words<T: ProfileTexts, A: Allocator + Copy>(
     ensures named { IfOk result (λ fault. IfNone fault (AddsFleet string_bytes
         (T.text_of texts.old) path.now (T.given texts.old) (T.given texts.new)
         words.old.items words.new.items)) }
+    ensures asked { T.named texts.new ≡ T.named texts.old ++ path.now ∷ [] }
     ensures working { IfOk result (λ fault. IfNone fault (IsFalse (T.failed texts.new))) }
     ensures same { T.text_of texts.new ≡ T.text_of texts.old }
 {

@@ -109,7 +109,7 @@ fn tell_group<'n, J: Jobs<'n>, O: Outlet, A: Allocator + Copy>(
     let mut job = jobs.job(name);
     let answer = check_group(alloc, &mut job, &group);
     let error = job.error();
-    jobs.end(job);
+    jobs.end(name, job);
     tell_line(alloc, &group, name, answer, error, telling, stdout)?;
     let ending = Ending::of(telling, answer);
     match note_printer(answer, group.note_printers()) {

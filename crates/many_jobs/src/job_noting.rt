@@ -70,7 +70,7 @@ pub fn tell_notes<'n, J: Jobs<'n>, O: Outlet, A: Allocator + Copy>(
     let mut job = jobs.job(name);
     let notes = read_notes(alloc, &mut job, name, group, printer, telling);
     let error = cause_of(&notes, job.error());
-    jobs.end(job);
+    jobs.end(name, job);
     write_notes(alloc, notes, error, name, group, telling, stdout)
 }
 

@@ -1,10 +1,11 @@
 -- Fleets that are read one after another.
-use Rattle.std.proofs.Common.{◌≡◌, ◌≢◌, ◌≤◌, ◌<◌, ◌+◌, ℕ, Bor, List, [], ◌∷◌, ◌++◌, append-nil, append_assoc, ap, arith, flat_map, get_or}
-use Rattle.std.proofs.Common.{length, length-append, map, refl, subst, sym, take, ◌∙◌}
+use Rattle.std.proofs.Common.{◌≡◌, ◌≢◌, ◌≤◌, ◌<◌, ◌+◌, ℕ, Bool, Bor, List, [], ◌∷◌, ◌++◌, append-nil, append_assoc, ap, arith, flat_map}
+use Rattle.std.proofs.Common.{IsFalse, false, get_or, length, length-append, map, refl, subst, sym, take, ◌∙◌}
 use Rattle.std.specs.List.{AllByRecursion}
 use Rattle.std.specs.Prelude.{Option}
 use Rattle.std.proofs.lemmas.Grind.{flat_map-append}
 use Rattle.std.proofs.lemmas.List.{length-map, map-append, map_more, nil_from_length, take_all}
+use Rattle.streams.specs.Used.{FileUse, TextsAt}
 use Rattle.many_jobs.specs.FleetFile.{AddsFleet, AreFleets, FleetText, IsFleet, fleet_at, words_named}
 use Rattle.many_requests.specs.Checks.{ReadsFleets}
 
@@ -59,6 +60,24 @@ pub reads_all : (text_of : List ℕ → Option (List ℕ)) (paths : List (Bor (L
     → ReadsFleets text_of (map (λ path. path.now) paths) old new words
 reads_all text_of paths i old new words all reads =
     subst (λ ps. ReadsFleets text_of (map (λ path. path.now) ps) old new words) (take_all i paths all) reads
+
+-- they were asked for, and no others
+pub asked_all : (paths : List (Bor (List ℕ))) (i : ℕ) (start after : List (List ℕ)) → length paths ≤ i
+    → after ≡ start ++ map (λ path. path.now) (take i paths) → after ≡ start ++ map (λ path. path.now) paths
+asked_all paths i start after all asked =
+    subst (λ (ps : List (Bor (List ℕ))). after ≡ start ++ map (λ path. path.now) ps) (take_all i paths all) asked
+
+-- so the history of files has them, where nothing was read before
+pub fleets_told : (used between : List FileUse) (paths slice before named start given texts : List (List ℕ)) (failed : Bool)
+    → between ≡ used ++ TextsAt named given failed ∷ [] → before ≡ [] → named ≡ before ++ slice → slice ≡ paths
+    → start ≡ [] → given ≡ start ++ texts → IsFalse failed → between ≡ used ++ TextsAt paths texts false ∷ []
+fleets_told used between paths slice before named start given texts failed told unnamed are is none read working =
+    told
+    ∙ ap (λ (words : List (List ℕ)). used ++ TextsAt words given failed ∷ [])
+    (are ∙ (ap (λ (front : List (List ℕ)). front ++ slice) unnamed ∙ is))
+    ∙ ap (λ (all : List (List ℕ)). used ++ TextsAt paths all failed ∷ [])
+    (read ∙ ap (λ (front : List (List ℕ)). front ++ texts) none)
+    ∙ ap (λ (stopped : Bool). used ++ TextsAt paths texts stopped ∷ []) working
 
 -- each names one word at least
 words_count : (text_of : List ℕ → Option (List ℕ)) (fleets : List FleetText) → AllByRecursion (IsFleet text_of) fleets →

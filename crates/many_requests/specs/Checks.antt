@@ -1,15 +1,18 @@
--- What is left of a check of many jobs. Nothing is known of files beforehand, so this is said for some texts of them.
-use Rattle.std.specs.Prelude.{◌≡◌, ◌⊎◌, ◌++◌, ℕ, Bool, List, [], flat_map, map, option_map, Contains, IsFalse, IsTrue}
-use Rattle.std.specs.Prelude.{Option, Some, if◌then◌else◌}
+-- What is left of a check of many jobs. Nothing is known of files beforehand, so this is said for what the history of
+-- files tells: the texts of the fleets under their paths, the file of names, the texts of the printers under their
+-- words, and each job under its name, as often as it was read. Standard input is the job `-`; where it has the names,
+-- it is not in the history.
+use Rattle.std.specs.Prelude.{◌≡◌, ◌⊎◌, ◌∷◌, ◌++◌, ℕ, Bool, List, [], flat_map, map, option_map, Contains, IsFalse}
+use Rattle.std.specs.Prelude.{IsTrue, Option, Some, false, if◌then◌else◌}
 use Rattle.std.specs.declared.alloc.Global.{Global}
 use Rattle.requests.specs.declared.many_words.Form.{Form}
 use Rattle.requests.specs.declared.many_words.Form.TheVariants.{Line as LineForm, Words as WordsForm, Json as JsonForm}
 use Rattle.requests.specs.declared.many_words.ManyWords.{ManyWords}
 use Rattle.streams.specs.declared.error.Error.TheVariants.{Memory}
+use Rattle.streams.specs.Ended.{JobRead}
 use Rattle.streams.specs.Files.{no_source}
 use Rattle.streams.specs.Outlet.{OutletState}
-use Rattle.streams.specs.Source.{SourceState}
-use Rattle.streams.specs.Used.{FileUse}
+use Rattle.streams.specs.Used.{FileUse, TextsAt, read_of_job}
 use Rattle.many_jobs.specs.CheckMany.{Asked, LeavesMany}
 use Rattle.many_jobs.specs.FleetFile.{AreFleets, FleetText, TellsOfFleet, words_named}
 use Rattle.job_reports.specs.Refusals.{TellsOfNames}
@@ -76,13 +79,15 @@ pub record IsTelling (asking : Asking) (telling : HowTold) : Type 0 where
   pub passes_unchecked : telling.passes_unchecked ≡ asking.passes_unchecked
 
 -- What is checked: the jobs of the words and then those that the bytes of the file of names have, for the printers of
--- the words and then those that the texts of the fleets name. The history of files has the file of names.
+-- the words and then those that the texts of the fleets name. The history of files has these texts, under the paths of
+-- the fleets, and then the file of names.
 pub record Completes (asking : Asking) (asked : Asked) (used used' : List FileUse) : Type 0 where
   pub names : List ℕ
   pub fleets : List FleetText
   pub jobs : asked.jobs ≡ asking.jobs ++ names_in names
   pub printers : asked.printers ≡ asking.printers ++ flat_map words_named fleets
-  pub are_names : AreNamesAt asking.names_from used used' names
+  pub are_names : AreNamesAt asking.names_from
+      (used ++ TextsAt asking.fleets (map (λ fleet. fleet.text) fleets) false ∷ []) used' names
   pub are_fleets : AreFleets text_named asking.fleets fleets
   pub most_items : asked.most_items ≡ asking.most_items
   pub is_each : asked.is_each ≡ asking.is_each
@@ -98,24 +103,35 @@ pub record ReadsFleets (text_of : List ℕ → Option (List ℕ)) (paths old new
 
 -- ---- what is left
 
--- The jobs are checked, where standard input is read once at most;
--- or they are refused for what can be read only once, and no line is written.
-abbrev pub LeavesAsked : Option (List ℕ) → Asked → Status → OutletState → OutletState → OutletState → OutletState →
+-- of these words the first ones were asked for, in their order, as far as it came, and gave these texts;
+-- and then these jobs were read
+abbrev pub UsesAll : (words texts : List (List ℕ)) → (failed : Bool) → List JobRead → List FileUse → List FileUse →
     Type 0
-LeavesAsked names_from asked status out out' err err' =
-    (IsFalse (reads_input_again names_from asked) × (ended : List SourceState) × (read_failed : Bool)
-    × LeavesMany (map text_named asked.printers) read_failed asked (λ name. no_source) status (work out [])
+UsesAll words texts failed jobs used used' =
+    (asked : List (List ℕ)) × (later : List (List ℕ)) × (words ≡ asked ++ later)
+    × (used' ≡ used ++ TextsAt asked texts failed ∷ map read_of_job jobs)
+
+-- The jobs are checked, where standard input is read once at most, for the printers of the texts in the history;
+-- or they are refused for what can be read only once, no line is written and nothing read.
+abbrev pub LeavesAsked : Option (List ℕ) → Asked → Status → List FileUse → List FileUse → OutletState → OutletState →
+    OutletState → OutletState → Type 0
+LeavesAsked names_from asked status used used' out out' err err' =
+    (IsFalse (reads_input_again names_from asked) × (ended : List JobRead) × (texts : List (List ℕ))
+    × (read_failed : Bool) × UsesAll asked.printers texts read_failed ended used used'
+    × LeavesMany (map text_named asked.printers) [] texts read_failed asked (λ name. no_source) status (work out [])
     (work out' ended) err err'
     × (out'.failed ≡ is_stop_of_write status))
-    ⊎ (RefusesInput names_from asked status err err' × (out' ≡ out))
+    ⊎ (RefusesInput names_from asked status err err' × (out' ≡ out) × (used' ≡ used))
 
--- the jobs to which a list of these bytes leads are checked, or the list is refused, and no line is written
-abbrev pub LeavesFound : Bool → Option (List ℕ) → List ℕ → Asked → Status → OutletState → OutletState → OutletState →
-    OutletState → Type 0
-LeavesFound allows_empty names_from names asked status out out' err err' =
-    (IsFalse (is_refused_list allows_empty names asked.jobs) × LeavesAsked names_from asked status out out' err err')
+-- the jobs to which a list of these bytes leads are checked, or the list is refused, no line is written and nothing
+-- more read
+abbrev pub LeavesFound : Bool → Option (List ℕ) → List ℕ → Asked → Status → List FileUse → List FileUse →
+    OutletState → OutletState → OutletState → OutletState → Type 0
+LeavesFound allows_empty names_from names asked status used used' out out' err err' =
+    (IsFalse (is_refused_list allows_empty names asked.jobs)
+    × LeavesAsked names_from asked status used used' out out' err err')
     ⊎ (IsTrue (is_refused_list allows_empty names asked.jobs)
-    × RefusesList (path_of names_from) (list_fault names) status err err' × (out' ≡ out))
+    × RefusesList (path_of names_from) (list_fault names) status err err' × (out' ≡ out) × (used' ≡ used))
 
 -- why there is nothing to check: one of these fleets is refused, or this file of names cannot be read, of which
 -- standard error is told; or there is no memory
@@ -129,6 +145,6 @@ LacksSome fleets names_from status err err' =
 abbrev pub LeavesChecks : Asking → Status → List FileUse → List FileUse → OutletState → OutletState → OutletState →
     OutletState → Type 0
 LeavesChecks asking status used used' out out' err err' =
-    ((asked : Asked) × (had : Completes asking asked used used')
-    × LeavesFound asking.allows_empty asking.names_from had.names asked status out out' err err')
+    ((asked : Asked) × (between : List FileUse) × (had : Completes asking asked used between)
+    × LeavesFound asking.allows_empty asking.names_from had.names asked status between used' out out' err err')
     ⊎ (LacksSome asking.fleets asking.names_from status err err' × (out' ≡ out))

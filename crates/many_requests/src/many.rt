@@ -41,6 +41,7 @@ pub fn check_asked<R: Files + Input + AllocGlobal, O: Outlet, E: Outlet>(
         Ok(fleets) => fleets,
         Err(status) => return status,
     };
+    texts.end(used);
     let Ok(printers) = all_printers(alloc, words.printers.as_slice(), fleets.as_slice()) else {
         return Status::Stopped(Error::Memory);
     };
@@ -59,7 +60,7 @@ pub fn check_asked<R: Files + Input + AllocGlobal, O: Outlet, E: Outlet>(
         tells_notes: words.tells_notes,
         telling: telling_of(alloc, words),
     };
-    check_found(rt, words, names.as_slice(), &many, stdout, stderr)
+    check_found(rt, words, names.as_slice(), &many, used, stdout, stderr)
 }
 
 /// Checks all jobs that are asked for, unless the list of their names is refused, which has these
@@ -69,6 +70,7 @@ fn check_found<'r, R: Files + Input + AllocGlobal, O: Outlet, E: Outlet>(
     words: &ManyWords<'_>,
     names: &[u8],
     many: &ManyJobs<'_, 'r>,
+    used: &mut FilesUsed,
     stdout: &mut O,
     stderr: &mut E,
 ) -> Status
@@ -77,14 +79,14 @@ fn check_found<'r, R: Files + Input + AllocGlobal, O: Outlet, E: Outlet>(
     requires some { many.now.printers.now ≢ [] }
     ensures { LeavesFound words.now.allows_empty
         (option_map (λ path. path.now) words.now.names_from) names.now (asked_for many.now)
-        result (O.state stdout.old) (O.state stdout.new)
+        result used.old used.new (O.state stdout.old) (O.state stdout.new)
         (E.state stderr.old) (E.state stderr.new) }
 {
     if is_refused_list(words.allows_empty, names, many.jobs) {
         let path = path_of(words.names_from);
         return refuse_list(rt.alloc(), path, list_fault(names), stderr);
     }
-    check_all(rt, words.names_from, many, stdout, stderr)
+    check_all(rt, words.names_from, many, used, stdout, stderr)
 }
 
 /// Checks all jobs that are asked for, unless one would be read again that can be read only once.
@@ -93,6 +95,7 @@ fn check_all<'r, R: Files + Input + AllocGlobal, O: Outlet, E: Outlet>(
     rt: &'r R,
     names_from: Option<&str>,
     many: &ManyJobs<'_, 'r>,
+    used: &mut FilesUsed,
     stdout: &mut O,
     stderr: &mut E,
 ) -> Status
@@ -100,7 +103,7 @@ fn check_all<'r, R: Files + Input + AllocGlobal, O: Outlet, E: Outlet>(
     requires stderr { IsFalse (E.state stderr.old).failed }
     requires some { many.now.printers.now ≢ [] }
     ensures { LeavesAsked (option_map (λ path. path.now) names_from.entry) (asked_for many.now)
-        result (O.state stdout.old) (O.state stdout.new)
+        result used.old used.new (O.state stdout.old) (O.state stdout.new)
         (E.state stderr.old) (E.state stderr.new) }
 {
     if let Some(status) = refuse_inputs(rt, names_from, many, stderr) {
@@ -108,7 +111,10 @@ fn check_all<'r, R: Files + Input + AllocGlobal, O: Outlet, E: Outlet>(
     }
     let mut jobs = FileJobs::new(rt);
     let mut texts = FileTexts::new(rt);
-    check_many(rt.alloc(), &mut jobs, &mut texts, many, stdout, stderr)
+    let status = check_many(rt.alloc(), &mut jobs, &mut texts, many, stdout, stderr);
+    texts.end(used);
+    jobs.tell(used);
+    status
 }
 
 /// The words that fleets name, one fleet behind another.
@@ -123,6 +129,9 @@ fn read_fleets<T: ProfileTexts, E: Outlet>(
     ensures read { IfOk result (λ words. ReadsFleets (T.text_of texts.old)
         (map (λ path. path.now) paths.now) (T.given texts.old) (T.given texts.new)
         (map string_bytes words.items)) }
+    ensures asked { OnOk result (T.named texts.new ≡
+        T.named texts.old ++ map (λ path. path.now) paths.now) }
+    ensures working { OnOk result (IsFalse (T.failed texts.new)) }
     ensures quiet { OnOk result (stderr.new ≡ stderr.old) }
     ensures end { IfErr result (λ status. (path : List ℕ) ×
         Contains (map (λ path. path.now) paths.now) path ×

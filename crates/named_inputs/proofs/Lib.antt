@@ -4,4 +4,3 @@ pub mod FleetFacts
 mod FrontFacts
 pub mod InputUses
 pub mod TextFacts
-mod Walks

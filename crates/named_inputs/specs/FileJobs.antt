@@ -3,7 +3,6 @@ use Rattle.std.specs.Prelude.{◌≡◌, ℕ, Bool, List, [], ◌∷◌, None, c
 use Rattle.std.specs.Str.{bytes_eq}
 use Rattle.streams.specs.Source.{SourceState}
 use Rattle.streams.specs.Used.{FileUse, read_at}
-use Rattle.named_inputs.specs.declared.ended.JobEnd.{JobEnd}
 use Rattle.named_inputs.specs.declared.file_jobs.JobSource.{JobSource}
 use Rattle.named_inputs.specs.declared.file_jobs.JobSource.TheVariants.{File, Standard, NoText}
 
@@ -17,10 +16,6 @@ abbrev pub is_job_at : {R F I N : Type 0} → JobSource R F I N → List ℕ →
 is_job_at (File file) name = file.path ≡ name
 is_job_at (Standard input) name = ⊤
 is_job_at (NoText none) name = ⊤
-
--- what a job had come to when it was ended; what it would have given is not known
-abbrev pub state_at_end : JobEnd → SourceState
-state_at_end job = record { given = job.given.pieces; remaining = None; failed = job.has_failed }
 
 -- a word for standard input
 abbrev pub is_input : List ℕ → Bool

@@ -1,14 +1,14 @@
 //! Jobs that are files, and the one on standard input.
-ghost use Rattle.std.specs.Prelude.{◌≡◌, []};
+ghost use Rattle.std.specs.Prelude.{◌≡◌, ◌++◌, [], map};
 ghost use Rattle.named_inputs.specs.FileJobs.{is_input, state_of_job};
+ghost use Rattle.streams.specs.Used.{read_of_job};
 
-use crate::ended::{Ended, JobEnd};
 use crate::jobs::Jobs;
 use std::io;
 use std::io::{Input, Read};
 use std::marker::Model;
 use std::rt::Files;
-use streams::{FileSource, Given, Latched, Source};
+use streams::{Ended, FileSource, FilesUsed, Given, JobEnd, Latched, Source};
 
 /// Whether a word names standard input.
 pub fn is_input(name: &[u8]) -> bool
@@ -26,9 +26,9 @@ pub struct FileJobs<'a, R: Files + Input> {
 
 impl<'a, R: Files + Input> Model for FileJobs<'a, R> {
     ghost use Rattle.std.specs.Prelude.{List};
-    ghost use Rattle.streams.specs.Source.{SourceState};
+    ghost use Rattle.streams.specs.Ended.{JobRead};
 
-    ghost Value = { List SourceState };
+    ghost Value = { List JobRead };
 
     ghost view = { λ jobs. jobs.ended.jobs };
 }
@@ -42,6 +42,13 @@ impl<'a, R: Files + Input> FileJobs<'a, R> {
             runtime,
             ended: Ended::new(),
         }
+    }
+
+    /// Tells the history of files the jobs that were ended, each under its name.
+    pub fn tell(self, used: &mut FilesUsed)
+        ensures { used.new ≡ used.old ++ map read_of_job self.entry }
+    {
+        used.jobs(self.ended);
     }
 }
 
@@ -127,9 +134,13 @@ impl<'a, R: Files + Input> Jobs<'a> for FileJobs<'a, R> {
         }
     }
 
-    fn end(&mut self, job: JobSource<'a, R>) {
+    fn end(&mut self, name: &'a [u8], job: JobSource<'a, R>) {
         let has_failed = job.has_failed();
         let given = job.into_given();
-        self.ended = self.ended.and(&JobEnd { given, has_failed });
+        self.ended = self.ended.and(&JobEnd {
+            name,
+            given,
+            has_failed,
+        });
     }
 }

@@ -1,5 +1,6 @@
 //! Jobs under their names.
 ghost use Rattle.std.specs.Prelude.{◌≡◌, ◌∷◌, ◌++◌, [], ℕ, List, IsFalse};
+ghost use Rattle.streams.specs.Ended.{JobRead, job_read};
 ghost use Rattle.streams.specs.Source.{SourceState};
 
 use streams::Source;
@@ -15,8 +16,8 @@ pub trait Jobs<'n> {
     // The source is the one that this name stands for.
     ghost is_named: { Self.Job → List ℕ → Type 0 };
 
-    // What the jobs that were ended had come to, in their order.
-    ghost ended: { Self → List SourceState };
+    // What the jobs that were ended had come to under their names, in their order.
+    ghost ended: { Self → List JobRead };
 
     /// The job that a word names, of which nothing is read yet.
     fn job(&self, name: &'n [u8]) -> Self::Job
@@ -24,8 +25,9 @@ pub trait Jobs<'n> {
         ensures start { Self.Job.state result ≡ start self.now name.now }
         ensures named { is_named result name.now };
 
-    /// Ends a job, of which no more is read.
-    fn end(&mut self, job: Self::Job)
-        ensures ended { ended self.new ≡ ended self.old ++ Self.Job.state job ∷ [] }
+    /// Ends the job of a name, of which no more is read.
+    fn end(&mut self, name: &'n [u8], job: Self::Job)
+        ensures ended { ended self.new ≡ ended self.old
+            ++ job_read name.now (Self.Job.state job) ∷ [] }
         ensures start { start self.new ≡ start self.old };
 }

@@ -2,7 +2,6 @@
 #![tactic(auto)]
 
 mod choices;
-mod ended;
 mod file_jobs;
 mod file_texts;
 mod fleet;
@@ -13,7 +12,6 @@ pub mod system_words;
 mod texts;
 
 pub use choices::{chosen_panel, refuse_choice};
-pub use ended::{Ended, JobEnd};
 pub use file_jobs::{FileJobs, JobSource, is_input};
 pub use file_texts::FileTexts;
 pub use fleet::{read_fleet, read_kept_fleet, read_profile, refusal};

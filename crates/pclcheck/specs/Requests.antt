@@ -1,6 +1,5 @@
 -- What the program leaves of what it is asked for. Nothing is known of its files beforehand; the history of files tells
--- which were read and which were written, and which profiles a job or a sheet is for;
--- of other texts of profiles and of the jobs of many it is said for some reads.
+-- which were read and which were written, and under which words texts of profiles were asked for.
 use Rattle.renderings.specs.Due.{list_rendering}
 use Rattle.std.specs.Prelude.{◌≡◌, List, ℕ, Option, map, option_map, IsFalse, IsTrue}
 use Rattle.requests.specs.declared.request.Request.{Request}
@@ -39,7 +38,7 @@ Fulfils texts (requests.Check job profiles) status used used' out out' err err' 
 Fulfils texts (requests.CheckMany words) status used used' out out' err err' =
     LeavesChecks (asking texts words) status used used' out out' err err'
 Fulfils texts (requests.Survey jobs form) status used used' out out' err err' =
-    LeavesSurveyOf (map (λ job. job.now) jobs.items) form status out out' err err' × (used' ≡ used)
+    LeavesSurveyOf (map (λ job. job.now) jobs.items) form status used used' out out' err err'
 Fulfils texts (requests.List job) status used used' out out' err err' =
     LeavesRendered job.now list_rendering status used used' out out' × (err' ≡ err)
 Fulfils texts (requests.Pages job profile) status used used' out out' err err' =
@@ -60,9 +59,9 @@ Fulfils texts (requests.ProfileNew words) status used used' out out' err err' =
     LeavesProfile words.model.now (map (λ name. name.now) words.papers.items) words.lists status out out' err err'
     × (used' ≡ used)
 Fulfils texts (requests.ProfileLint profiles) status used used' out out' err err' =
-    LeavesLintFor (map (λ word. word.now) profiles.items) status out out' err err' × (used' ≡ used)
+    LeavesLintFor (map (λ word. word.now) profiles.items) status used used' out out' err err'
 Fulfils texts (requests.ProfileShow profile) status used used' out out' err err' =
-    LeavesShownFor profile.now status out out' err err' × (used' ≡ used)
+    LeavesShownFor profile.now status used used' out out' err err'
 Fulfils texts (requests.ProfileSheet profile file) status used used' out out' err err' =
     LeavesSheetFor profile.now file.now status used used' err err' × (out' ≡ out)
 Fulfils texts (requests.ProfileFromPjl answer base) status used used' out out' err err' =

@@ -17,7 +17,7 @@ use std::rt::Files;
 use streams::{FilesUsed, Outlet};
 
 /// Does what is asked for. Its files are opened by the subcommands, as late as these say; a history
-/// is kept of them, but for the jobs of many with their fleet, and what tells of profiles.
+/// is kept of them.
 pub fn fulfil<R: Files + Input + Print + AllocGlobal, O: Outlet, E: Outlet>(
     rt: &R,
     request: &Request<'_>,
@@ -37,7 +37,7 @@ pub fn fulfil<R: Files + Input + Print + AllocGlobal, O: Outlet, E: Outlet>(
         Request::Check { job, profiles } => check(rt, job, profiles.as_slice(), used, stdout),
         Request::CheckMany(words) => check_asked(rt, words, used, stdout, stderr),
         Request::Survey { jobs, form } => {
-            survey_files(rt, jobs.as_slice(), *form, stdout, stderr)
+            survey_files(rt, jobs.as_slice(), *form, used, stdout, stderr)
         }
         Request::List { job } => list(rt, job, used, stdout),
         Request::Pages { job, profile } => pages(rt, job, profile, used, stdout),
@@ -74,8 +74,8 @@ pub fn fulfil<R: Files + Input + Print + AllocGlobal, O: Outlet, E: Outlet>(
             let papers = words.papers.as_slice();
             profile_new(alloc, words.model, papers, words.lists, stdout, stderr)
         }
-        Request::ProfileLint { profiles } => lint(rt, profiles.as_slice(), stdout, stderr),
-        Request::ProfileShow { profile } => show(rt, profile, stdout, stderr),
+        Request::ProfileLint { profiles } => lint(rt, profiles.as_slice(), used, stdout, stderr),
+        Request::ProfileShow { profile } => show(rt, profile, used, stdout, stderr),
         Request::ProfileSheet { profile, out } => sheet(rt, profile, out, used, stderr),
         Request::ProfileFromPjl { answer, base } => from_pjl(
             rt, answer, *base, used, stdout, stderr,

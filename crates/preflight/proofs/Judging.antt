@@ -18,7 +18,7 @@ use Rattle.streams.specs.Driving.{IsAnswered, IsStopped, StopsBy}
 use Rattle.streams.proofs.Pieces.{known_by}
 use Rattle.streams.proofs.Driving.{never_items as none_of_limits, of_error, of_read, stop_gives}
 use Rattle.preflight.proofs.Sessions.{opened}
-use Rattle.preflight.proofs.Stood.{cursor_right, font_right, judged_told}
+use Rattle.preflight.proofs.Spots.{cursor_right, font_right, judged_told}
 use Rattle.preflight.proofs.StillOpen.{leaves_open}
 use Rattle.verdict.specs.declared.verdict.Verdict.{Verdict}
 

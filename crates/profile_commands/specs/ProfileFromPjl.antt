@@ -1,5 +1,5 @@
 -- What the command `profile from-pjl` leaves.
-use Rattle.std.specs.Prelude.{◌≡◌, ◌⊎◌, ℕ, List, [], ◌++◌, map, codes, decimal, Option, Some, None, take, Bool}
+use Rattle.std.specs.Prelude.{◌≡◌, ◌⊎◌, ℕ, List, [], ◌∷◌, ◌++◌, map, codes, decimal, Option, Some, None, take, Bool}
 use Rattle.pjl_answer.specs.declared.answered.AnswerError.{AnswerError}
 use Rattle.pjl_answer.specs.declared.answered.AnswerError.TheVariants.{LongAnswer, NoAnswer, Base, LongText}
 use Rattle.pjl_answer.specs.declared.answered.AnswerError.TheVariants.{Mismatch as OtherText, Memory as NoMemory}
@@ -36,6 +36,15 @@ abbrev pub IsBase : (List ℕ → Option (List ℕ)) → Option (List ℕ) → L
     Type 0
 IsBase text_of (Some word) old new answer base = IsRead (text_of word) old new base
 IsBase text_of None old new answer base = IsGenericFor answer base × (new ≡ old)
+
+-- the text under the word was asked for, where there is one, and no other
+abbrev pub AsksBase : Option (List ℕ) → (old new : List (List ℕ)) → Type 0
+AsksBase (Some word) old new = new ≡ old ++ word ∷ []
+AsksBase None old new = new ≡ old
+
+-- so, or no text was asked for
+abbrev pub AsksBaseIfAny : Option (List ℕ) → (old new : List (List ℕ)) → Type 0
+AsksBaseIfAny base old new = AsksBase base old new ⊎ (new ≡ old)
 
 -- the word of what an answer is put into
 abbrev pub base_word : Option (List ℕ) → List ℕ

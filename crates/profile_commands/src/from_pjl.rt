@@ -3,7 +3,8 @@ ghost use Rattle.std.specs.Prelude.{◌≡◌, ◌≢◌, ◌++◌, IfOk, IfErr,
 ghost use Rattle.streams.specs.Writing.{Writes};
 ghost use Rattle.pjl_answer.specs.Answered.{IsAnswered, IsAnswerError};
 ghost use Rattle.printer_models.specs.Paper.{word_of};
-ghost use Rattle.profile_commands.specs.ProfileFromPjl.{IsBase, IsGenericFor, LeavesAnswered};
+ghost use Rattle.profile_commands.specs.ProfileFromPjl.{AsksBase, AsksBaseIfAny, IsBase};
+ghost use Rattle.profile_commands.specs.ProfileFromPjl.{IsGenericFor, LeavesAnswered};
 ghost use Rattle.profile_commands.specs.ProfileFromPjl.{LeavesOfAnswer, TellsNoBase, odd_answer};
 ghost use Rattle.profile_commands.specs.ProfileFromPjl.{refusal, trouble_of};
 ghost use Rattle.profile_commands.specs.ProfileNew.{mismatch_line};
@@ -42,10 +43,12 @@ pub fn profile_from_pjl<S: Source, T: ProfileTexts, O: Outlet, E: Outlet, A: All
     requires texts { IsFalse (T.failed texts.old) }
     requires stdout { IsFalse (O.state stdout.old).failed }
     requires stderr { IsFalse (E.state stderr.old).failed }
-    ensures { LeavesAnswered (S.state source.old) (S.state source.new) (T.text_of texts.old)
+    ensures left { LeavesAnswered (S.state source.old) (S.state source.new) (T.text_of texts.old)
         word.now (option_map (λ word. word.now) base.entry) (T.given texts.old) (T.given texts.new)
         (T.failed texts.new) result (O.state stdout.old) (O.state stdout.new)
         (E.state stderr.old) (E.state stderr.new) }
+    ensures named { AsksBaseIfAny (option_map (λ word. word.now) base.entry)
+        (T.named texts.old) (T.named texts.new) }
 {
     match read_front(alloc, source, MOST_BYTES + 1) {
         Ok(answer) => put_answer(alloc, word, answer.as_slice(), texts, base, stdout, stderr),
@@ -69,10 +72,12 @@ fn put_answer<T: ProfileTexts, O: Outlet, E: Outlet, A: Allocator + Copy>(
     requires texts { IsFalse (T.failed texts.old) }
     requires stdout { IsFalse (O.state stdout.old).failed }
     requires stderr { IsFalse (E.state stderr.old).failed }
-    ensures { LeavesOfAnswer (T.text_of texts.old) word.now
+    ensures left { LeavesOfAnswer (T.text_of texts.old) word.now
         (option_map (λ word. word.now) base.entry)
         (T.given texts.old) (T.given texts.new) (T.failed texts.new) answer.now result
         (O.state stdout.old) (O.state stdout.new) (E.state stderr.old) (E.state stderr.new) }
+    ensures named { AsksBase (option_map (λ word. word.now) base.entry)
+        (T.named texts.old) (T.named texts.new) }
 {
     let text = match base_text(alloc, answer, texts, base, stderr) {
         Ok(text) => text,
@@ -98,6 +103,8 @@ fn base_text<T: ProfileTexts, E: Outlet, A: Allocator + Copy>(
     ensures text { IfOk result (λ text. IsBase (T.text_of texts.old)
         (option_map (λ word. word.now) base.entry) (T.given texts.old) (T.given texts.new)
         answer.now text.items) }
+    ensures named { AsksBase (option_map (λ word. word.now) base.entry)
+        (T.named texts.old) (T.named texts.new) }
     ensures quiet { OnOk result (stderr.new ≡ stderr.old) }
     ensures none { IfErr result (λ status. TellsNoBase (option_map (λ word. word.now) base.entry)
         (T.given texts.old) (T.given texts.new) (T.failed texts.new) status

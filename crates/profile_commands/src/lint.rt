@@ -3,6 +3,7 @@ ghost use Rattle.std.specs.Prelude.{◌≡◌, ◌++◌, ◌∷◌, [], IfErr, I
 ghost use Rattle.profile_commands.specs.ProfileLint.{AreRead, LeavesLint, StopsReading};
 ghost use Rattle.profile_commands.specs.ProfileLint.{WritesFindings};
 ghost use Rattle.profile_lint.specs.Lint.{have_faults, lint_text};
+ghost use Rattle.named_inputs.specs.Texts.{AsksInOrder};
 
 use crate::profile_reading::read_text;
 use named_inputs::ProfileTexts;
@@ -23,9 +24,11 @@ pub fn profile_lint<T: ProfileTexts, O: Outlet, E: Outlet, A: Allocator + Copy>(
     requires texts { IsFalse (T.failed texts.old) }
     requires stdout { IsFalse (O.state stdout.old).failed }
     requires stderr { IsFalse (E.state stderr.old).failed }
-    ensures { LeavesLint (T.text_of texts.old) (map (λ word. word.now) words.now)
+    ensures left { LeavesLint (T.text_of texts.old) (map (λ word. word.now) words.now)
         (T.given texts.old) (T.given texts.new) (T.failed texts.new) result
         (O.state stdout.old) (O.state stdout.new) (E.state stderr.old) (E.state stderr.new) }
+    ensures named { AsksInOrder (map (λ word. word.now) words.now)
+        (T.named texts.old) (T.named texts.new) }
 {
     match read_all(alloc, texts, words, stderr) {
         Ok(all) => write_findings(alloc, all.as_slice(), stdout),
@@ -44,6 +47,8 @@ fn read_all<'w, T: ProfileTexts, E: Outlet, A: Allocator + Copy>(
     requires stderr { IsFalse (E.state stderr.old).failed }
     ensures texts { IfOk result (λ all. AreRead (T.text_of texts.old)
         (map (λ word. word.now) words.now) (T.given texts.old) (T.given texts.new) all.items) }
+    ensures named { AsksInOrder (map (λ word. word.now) words.now)
+        (T.named texts.old) (T.named texts.new) }
     ensures quiet { OnOk result (stderr.new ≡ stderr.old) }
     ensures none { IfErr result (λ status. StopsReading (T.text_of texts.old)
         (map (λ word. word.now) words.now) (T.given texts.old) (T.given texts.new)

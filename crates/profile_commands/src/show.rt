@@ -1,5 +1,5 @@
 //! The command `profile show`.
-ghost use Rattle.std.specs.Prelude.{IsFalse};
+ghost use Rattle.std.specs.Prelude.{◌≡◌, ◌∷◌, ◌++◌, [], IsFalse};
 ghost use Rattle.profile_commands.specs.ProfileShow.{LeavesShown};
 
 use crate::profile_reading::{profile_of, read_text};
@@ -23,9 +23,10 @@ pub fn profile_show<T: ProfileTexts, O: Outlet, E: Outlet, A: Allocator + Copy>(
     requires texts { IsFalse (T.failed texts.old) }
     requires stdout { IsFalse (O.state stdout.old).failed }
     requires stderr { IsFalse (E.state stderr.old).failed }
-    ensures { LeavesShown (T.text_of texts.old word.now) word.now (T.given texts.old)
+    ensures left { LeavesShown (T.text_of texts.old word.now) word.now (T.given texts.old)
         (T.given texts.new) (T.failed texts.new) result (O.state stdout.old) (O.state stdout.new)
         (E.state stderr.old) (E.state stderr.new) }
+    ensures named { T.named texts.new ≡ T.named texts.old ++ word.now ∷ [] }
 {
     let text = match read_text(alloc, texts, word, stderr) {
         Ok(text) => text,

@@ -22,6 +22,12 @@ texts_read used used' before words texts asked failed none are more =
     more
     ∙ ap (λ (w : List (List ℕ)). used ++ TextsAt w texts failed ∷ []) (are ∙ ap (λ (b : List (List ℕ)). b ++ asked) none)
 
+-- behind one others
+pub others_behind : (used between used' : List FileUse) (one : FileUse) (others : List FileUse)
+    → between ≡ used ++ one ∷ [] → used' ≡ between ++ others → used' ≡ used ++ one ∷ others
+others_behind used between used' one others first more =
+    more ∙ ap (λ (u : List FileUse). u ++ others) first ∙ append_assoc used (one ∷ []) others
+
 -- behind some files one more
 pub one_behind : (used between used' front : List FileUse) (other : FileUse)
     → between ≡ used ++ front → used' ≡ between ++ other ∷ [] → used' ≡ used ++ (front ++ other ∷ [])

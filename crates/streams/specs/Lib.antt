@@ -7,3 +7,4 @@ pub mod Used
 pub mod Errors
 pub mod Writing
 pub mod Driving
+pub mod Ended

@@ -1,7 +1,9 @@
 -- Which files were read and which were written, by the paths that they were asked for at.
+-- A job of many has its name for a path; under `-` that is standard input.
 use Rattle.std.specs.Prelude.{ℕ, List, Bool, if◌then◌else◌}
 use Rattle.std.specs.List.{concat}
 use Rattle.streams.specs.declared.used.FileEnd.{FileEnd}
+use Rattle.streams.specs.Ended.{JobRead}
 use Rattle.streams.specs.Outlet.{OutletState}
 use Rattle.streams.specs.Source.{SourceState}
 
@@ -17,6 +19,10 @@ pub data FileUse : Type 0 where
 -- it was read, and came to this
 abbrev pub read_at : List ℕ → SourceState → FileUse
 read_at path source = ReadAt path source.given source.failed
+
+-- so of a job, at the path that its name is
+abbrev pub read_of_job : JobRead → FileUse
+read_of_job job = read_at job.name job.state
 
 -- it was written, and came to this, which was put in its place or was not
 abbrev pub written_at : List ℕ → OutletState → Bool → FileUse

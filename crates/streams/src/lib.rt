@@ -4,6 +4,7 @@
 
 mod beside;
 mod driver;
+mod ended;
 mod error;
 mod file_at;
 mod file_id;
@@ -22,6 +23,7 @@ mod used;
 mod writing;
 
 pub use driver::{Consumer, PIECE, read_job};
+pub use ended::{Ended, JobEnd};
 pub use error::{CreateError, Error};
 pub use file_at::{OutletAt, SourceAt};
 pub use file_id::FileId;

@@ -1,9 +1,10 @@
 //! The files that were read and written, with the paths that they were asked for at. Only proofs
 //! read this: it takes no memory, and nothing is done for it at run time.
-ghost use Rattle.std.specs.Prelude.{◌≡◌, List, [], ◌∷◌, ◌++◌};
+ghost use Rattle.std.specs.Prelude.{◌≡◌, List, [], ◌∷◌, ◌++◌, map};
 ghost use Rattle.std.specs.Borrow.{ftrue};
-ghost use Rattle.streams.specs.Used.{FileUse, TextsAt, read_at, use_of, written_at};
+ghost use Rattle.streams.specs.Used.{FileUse, TextsAt, read_at, read_of_job, use_of, written_at};
 
+use crate::ended::Ended;
 use crate::file_at::{OutletAt, SourceAt};
 use crate::given::Given;
 use crate::outlet::Outlet;
@@ -52,10 +53,17 @@ impl FileUses {
     {
         FileUses {}
     }
+
+    #[inline(always)]
+    fn and_jobs(&self, _ended: &Ended) -> FileUses
+        ensures { result.uses ≡ self.now.uses ++ map read_of_job _ended.now.jobs }
+    {
+        FileUses {}
+    }
 }
 
 /// The files that were read and written so far, in the order in which that ended. A clause sees it
-/// as the list of them. Nothing but `read`, `written` and `texts` adds one.
+/// as the list of them. Nothing but `read`, `written`, `texts` and `jobs` adds one.
 #[derive(Drop)]
 pub struct FilesUsed {
     so_far: FileUses,
@@ -95,6 +103,13 @@ impl FilesUsed {
             has_failed,
             is_put: false,
         });
+    }
+
+    /// And then these jobs, each under its name.
+    pub fn jobs(&mut self, ended: Ended)
+        ensures { self.new ≡ self.old ++ map read_of_job ended.jobs }
+    {
+        self.so_far = self.so_far.and_jobs(&ended);
     }
 
     /// And then this one, of which no more is read.

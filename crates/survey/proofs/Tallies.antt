@@ -5,6 +5,7 @@ use Rattle.std.proofs.lemmas.Result.{on_ok_weaker}
 use Rattle.std.proofs.lemmas.List.{get_or-map, length-map, map_more, take_all}
 use Rattle.streams.specs.declared.error.Error.{Error}
 use Rattle.streams.specs.declared.error.Error.TheVariants.{Memory, Read, Write, Turns, NoProfile, Items}
+use Rattle.streams.specs.Ended.{JobRead, job_read}
 use Rattle.streams.specs.Outlet.{OutletState, Adds, AddsFront}
 use Rattle.streams.specs.Source.{SourceState}
 use Rattle.streams.specs.Writing.{Writes}
@@ -17,15 +18,18 @@ use Rattle.survey.specs.Command.{AreTallied, IsNextTallied, IsStop, LeavesSurvey
 
 -- ---- one job
 
-pub job_is_next : (start : List ℕ → SourceState) (name word : List ℕ) (before state : SourceState) (ended ended' : List SourceState)
-    (number : ℕ) (old new : Tally) → word ≡ name → before ≡ start word → ended' ≡ ended ++ state ∷ [] →
+pub job_is_next : (start : List ℕ → SourceState) (name word : List ℕ) (before state : SourceState) (ended ended' : List JobRead)
+    (number : ℕ) (old new : Tally) → word ≡ name → before ≡ start word → ended' ≡ ended ++ job_read word state ∷ [] →
     IsTallied before state number old new → IsNextTallied start name ended ended' number old new
-job_is_next start name word before state ended ended' number old new word_is begun ends h =
-    (state, ends, subst (λ (s : SourceState). IsTallied s state number old new) (begun ∙ ap start word_is) h)
+job_is_next start name word before state ended ended' number old new word_is begun ends h = (
+  state,
+  subst (λ (n : List ℕ). ended' ≡ ended ++ job_read n state ∷ []) word_is ends,
+  subst (λ (s : SourceState). IsTallied s state number old new) (begun ∙ ap start word_is) h,
+)
 
 pub jobs_next : {E : Type 0} (r : Result (Unit {0}) E) (start : List ℕ → SourceState) (name word : List ℕ)
-    (before state : SourceState) (ended ended' : List SourceState) (number : ℕ) (old new : Tally) → word ≡ name → before ≡ start word →
-    ended' ≡ ended ++ state ∷ [] → OnOk r (IsTallied before state number old new) →
+    (before state : SourceState) (ended ended' : List JobRead) (number : ℕ) (old new : Tally) → word ≡ name → before ≡ start word →
+    ended' ≡ ended ++ job_read word state ∷ [] → OnOk r (IsTallied before state number old new) →
     OnOk r (IsNextTallied start name ended ended' number old new)
 jobs_next r start name word before state ended ended' number old new word_is begun ends h =
     on_ok_weaker r (job_is_next start name word before state ended ended' number old new word_is begun ends) h
@@ -42,14 +46,14 @@ error_stops Items h other = absurd h
 -- ---- one job behind another
 
 -- one more
-pub tallied_more : (start : List ℕ → SourceState) (names : List (List ℕ)) (name : List ℕ) (ended between ended' : List SourceState)
+pub tallied_more : (start : List ℕ → SourceState) (names : List (List ℕ)) (name : List ℕ) (ended between ended' : List JobRead)
     (number : ℕ) (old mid new : Tally) → AreTallied start names ended between number old mid →
     IsNextTallied start name between ended' (number + length names) mid new →
     AreTallied start (names ++ name ∷ []) ended ended' number old new
 tallied_more start [] name ended between ended' number old mid new h next =
     let first : IsNextTallied start name ended ended' (number + 0) old new =
     subst (λ (tally : Tally). IsNextTallied start name ended ended' (number + 0) tally new) h.1
-    (subst (λ (states : List SourceState). IsNextTallied start name states ended' (number + 0) mid new) h.0 next) in
+    (subst (λ (states : List JobRead). IsNextTallied start name states ended' (number + 0) mid new) h.0 next) in
     let same : number + 0 ≡ number = omega arith in
     (ended', new, subst (λ n. IsNextTallied start name ended ended' n old new) same first, refl, refl)
 tallied_more start (other ∷ names) name ended between ended' number old mid new h next =
@@ -60,7 +64,7 @@ tallied_more start (other ∷ names) name ended between ended' number old mid ne
 
 -- one more of a list
 pub tallied_next : {X : Type 0} (start begun : List ℕ → SourceState) (f : X → List ℕ) (xs : List X) (i : ℕ) (d : X)
-    (ended between ended' : List SourceState) (old mid new : Tally) → i < length xs → begun ≡ start →
+    (ended between ended' : List JobRead) (old mid new : Tally) → i < length xs → begun ≡ start →
     AreTallied start (map f (take i xs)) ended between 0 old mid → IsNextTallied begun (f (get_or xs i d)) between ended' i mid new →
     AreTallied start (map f (take (i + 1) xs)) ended ended' 0 old new
 tallied_next start begun f xs i d ended between ended' old mid new within same h next =
@@ -75,7 +79,7 @@ tallied_next start begun f xs i d ended between ended' old mid new within same h
     (tallied_more start front name ended between ended' 0 old mid new h here)
 
 -- all of it
-pub tallied_all : {X : Type 0} (start : List ℕ → SourceState) (f : X → List ℕ) (xs : List X) (i : ℕ) (ended ended' : List SourceState)
+pub tallied_all : {X : Type 0} (start : List ℕ → SourceState) (f : X → List ℕ) (xs : List X) (i : ℕ) (ended ended' : List JobRead)
     (old new : Tally) → length xs ≤ i → AreTallied start (map f (take i xs)) ended ended' 0 old new →
     AreTallied start (map f xs) ended ended' 0 old new
 tallied_all {X} start f xs i ended ended' old new h =
@@ -104,7 +108,7 @@ written_in_part text out out' written failed = (failed, written.front)
 
 -- all jobs were surveyed
 pub survey_left : (form : Form) (names : List (List ℕ)) (start : List ℕ → SourceState) (status : Status)
-    (ended ended' : List SourceState) (out out' err err' : OutletState) (old new table : Tally) → old ≡ no_refusals → table ≡ new →
+    (ended ended' : List JobRead) (out out' err err' : OutletState) (old new table : Tally) → old ≡ no_refusals → table ≡ new →
     AreTallied start names ended ended' 0 old new →
     WritesSurvey (survey_text form names table) status out out' → err' ≡ err →
     LeavesSurvey form names start status ended ended' out out' err err'

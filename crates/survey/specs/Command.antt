@@ -1,6 +1,7 @@
 -- What the command `survey` leaves.
 use Rattle.std.specs.Prelude.{◌≡◌, ◌⊎◌, ℕ, ◌+◌, List, [], ◌∷◌, ◌++◌, codes, Contains, IsFalse, IsTrue, ⊤}
 use Rattle.streams.specs.declared.error.Error.TheVariants.{Memory, Write, Turns}
+use Rattle.streams.specs.Ended.{JobRead, job_read}
 use Rattle.streams.specs.Outlet.{OutletState, Adds, AddsFront}
 use Rattle.streams.specs.Source.{SourceState}
 use Rattle.requests.specs.declared.many_words.Form.{Form}
@@ -21,17 +22,16 @@ survey_text Json names tally = rows_objects names tally
 
 -- The job of this name and number was read to its end, and what is told of it is counted; it is one more of those that
 -- were ended.
-abbrev pub IsNextTallied : (List ℕ → SourceState) → List ℕ → List SourceState → List SourceState → ℕ → Tally → Tally →
-    Type 0
+abbrev pub IsNextTallied : (List ℕ → SourceState) → List ℕ → List JobRead → List JobRead → ℕ → Tally → Tally → Type 0
 IsNextTallied start name ended ended' number old new =
-    (state : SourceState) × (ended' ≡ ended ++ state ∷ []) × IsTallied (start name) state number old new
+    (state : SourceState) × (ended' ≡ ended ++ job_read name state ∷ []) × IsTallied (start name) state number old new
 
 -- so of the jobs of all these names, of which the first has this number
-abbrev pub AreTallied : (List ℕ → SourceState) → List (List ℕ) → List SourceState → List SourceState → ℕ → Tally →
+abbrev pub AreTallied : (List ℕ → SourceState) → List (List ℕ) → List JobRead → List JobRead → ℕ → Tally →
     Tally → Type 0
 AreTallied start [] ended ended' number old new = (ended' ≡ ended) × (new ≡ old)
 AreTallied start (name ∷ names) ended ended' number old new =
-    (between : List SourceState) × (tally : Tally) × IsNextTallied start name ended between number old tally
+    (between : List JobRead) × (tally : Tally) × IsNextTallied start name ended between number old tally
     × AreTallied start names between ended' (number + 1) tally new
 
 -- the work stopped before the end of the job
@@ -53,8 +53,8 @@ WritesSurvey text (Stopped Memory) out out' = out' ≡ out
 WritesSurvey text _ out out' = ⊥
 
 -- All jobs were surveyed, and what is counted of them is written; or one of them was not, and nothing is written.
-abbrev pub LeavesSurvey : Form → List (List ℕ) → (List ℕ → SourceState) → Status → List SourceState →
-    List SourceState → OutletState → OutletState → OutletState → OutletState → Type 0
+abbrev pub LeavesSurvey : Form → List (List ℕ) → (List ℕ → SourceState) → Status → List JobRead → List JobRead →
+    OutletState → OutletState → OutletState → OutletState → Type 0
 LeavesSurvey form names start status ended ended' out out' err err' =
     ((tally : Tally) × AreTallied start names ended ended' 0 no_refusals tally
     × WritesSurvey (survey_text form names tally) status out out' × (err' ≡ err))

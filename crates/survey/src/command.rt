@@ -98,9 +98,10 @@ fn survey_next<'n, J: Jobs<'n>, E: Outlet>(
     ensures stopped { IfErr result (λ status. StopsAt name.now status
         (E.state stderr.old) (E.state stderr.new)) }
 {
-    let mut job = jobs.job(name.as_bytes());
+    let bytes = name.as_bytes();
+    let mut job = jobs.job(bytes);
     let answer = survey_one(alloc, &mut job, number, name, surveyor, stderr);
-    jobs.end(job);
+    jobs.end(bytes, job);
     answer
 }
 

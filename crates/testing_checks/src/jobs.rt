@@ -1,9 +1,9 @@
 //! Jobs in memory under their names.
 ghost use Rattle.std.specs.Prelude.{◌≡◌, [], None, false};
 
-use named_inputs::{Ended, JobEnd, Jobs};
+use named_inputs::Jobs;
 use std::io;
-use streams::Source;
+use streams::{Ended, JobEnd, Source};
 use testing_jobs::FailingSource;
 
 /// A name, the bytes of its job, and how many reads of a byte succeed.
@@ -106,10 +106,14 @@ impl<'n> Jobs<'n> for KeptJobs {
         }
     }
 
-    fn end(&mut self, job: KeptJob) {
+    fn end(&mut self, name: &'n [u8], job: KeptJob) {
         let has_failed = job.has_failed();
         let given = job.inner.into_given();
-        self.ended = self.ended.and(&JobEnd { given, has_failed });
+        self.ended = self.ended.and(&JobEnd {
+            name,
+            given,
+            has_failed,
+        });
         self.count = self.count.saturating_add(1);
     }
 }

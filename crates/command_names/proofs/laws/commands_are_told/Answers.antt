@@ -1,4 +1,4 @@
-use Rattle.command_names.proofs.Laws.{tells_language}
+use Rattle.command_names.proofs.TableLaws.{tells_language}
 use Rattle.command_names.proofs.laws.commands_are_told.Goals as goal
 
 pub returns : goal.returns

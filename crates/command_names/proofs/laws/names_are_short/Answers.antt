@@ -1,4 +1,4 @@
-use Rattle.command_names.proofs.Laws.{name_is_short}
+use Rattle.command_names.proofs.TableLaws.{name_is_short}
 use Rattle.command_names.proofs.laws.names_are_short.Goals as goal
 
 pub returns : goal.returns

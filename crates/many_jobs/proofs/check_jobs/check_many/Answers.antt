@@ -26,21 +26,31 @@ returns-in-Err g c =
     (map (λ word. word.now) asked.printers.now) c.tell_refusal.result (g.E.Outlet.state c.args.stderr.now)
     (g.E.Outlet.state c.tell_refusal.new.stderr) c.in-Err.ensures.fleet c.tell_refusal.ensures in
     record {
-      left = inr (c.in-Err.status, c.in-Err.ensures.fleet, c.in-Err.ensures.read, c.tell_refusal.ensures, refl);
+      left = inr (
+        c.in-Err.status,
+        c.in-Err.ensures.fleet,
+        c.in-Err.ensures.given,
+        c.in-Err.ensures.read,
+        c.tell_refusal.ensures,
+        refl,
+      );
+      named = c.read_kept_fleet.ensures.named;
       read = told.0;
       write = c.requires.stdout ∙ sym told.1;
     }
 
 pub returns-in_default : goal.returns-in_default
 returns-in_default g c = record {
-  left = inr (Stopped Memory, tt, c.in-Ok.ensures.read, (refl, refl), refl);
+  left = inr (Stopped Memory, tt, tt, c.in-Ok.ensures.read, (refl, refl), refl);
+  named = c.read_kept_fleet.ensures.named;
   read = refl;
   write = c.requires.stdout;
 }
 
 pub returns-in_default-note_printers : goal.returns-in_default-note_printers
 returns-in_default-note_printers g c = record {
-  left = inr (Stopped Memory, tt, c.in-Ok.ensures.read, (refl, refl), refl);
+  left = inr (Stopped Memory, tt, tt, c.in-Ok.ensures.read, (refl, refl), refl);
+  named = c.read_kept_fleet.ensures.named;
   read = refl;
   write = c.requires.stdout;
 }
@@ -79,12 +89,13 @@ returns g c =
       left = inl (
         c.new-printers.result,
         of_texts _ asked.most_items asked.tells_notes c.new-printers.result c.in-Ok.fleet.items c.in-Ok-note_printers.note_printers.items _
-            given fleet printers names c.in-Ok.ensures.fleet by are named,
+            given _ _ fleet printers names c.in-Ok.ensures.fleet c.in-Ok.ensures.given by are named,
         ap (λ (group : Groups). group.is_each) c.new-printers.ensures,
         c.in-Ok.ensures.read,
         c.check_for.ensures.left,
         refl,
       );
+      named = c.read_kept_fleet.ensures.named;
       read =
           lines_told (asked_for asked) c.new-printers.result (g.J.Jobs.start c.args.jobs.now) c.check_for.result
           (work (g.O.Outlet.state c.args.stdout.now) (g.J.Jobs.ended c.args.jobs.now))

@@ -3,9 +3,9 @@ use Rattle.many_jobs.specs.Asked.{told_by}
 use Rattle.many_jobs.specs.CheckMany.{Asked}
 use Rattle.named_inputs.specs.Texts.{text_named}
 use Rattle.many_requests.proofs.Asking.{names_lack, some_printer}
-use Rattle.many_requests.proofs.Fleets.{fleets_count}
+use Rattle.many_requests.proofs.Fleets.{fleets_count, fleets_told}
 use Rattle.many_requests.specs.Checks.{LeavesFound, ReadsFleets}
-use Rattle.many_requests.specs.Names.{names_in}
+use Rattle.many_requests.specs.Names.{AreNamesAt, names_in}
 use Rattle.many_requests.proofs.many.check_asked.Goals as goal
 
 pub returns-in-Err-read_names : goal.returns-in-Err-read_names
@@ -38,6 +38,11 @@ returns g c =
     (λ fleets.
     ReadsFleets text_named (map (λ word. word.now) fleets) c.new-texts.result.given given (map string_bytes c.in-Ok.fleets.items))
     c.as_slice.ensures.value c.in-Ok.ensures.read in
+    let told =
+    fleets_told c.args.used.now c.end.new.used (map (λ word. word.now) words.fleets.items) (map (λ word. word.now) c.as_slice.result.now)
+    c.new-texts.result.named c.read_fleets.new.texts.named c.new-texts.result.given given (map (λ fleet. fleet.text) reads.fleets)
+    c.read_fleets.new.texts.has_failed c.end.ensures c.new-texts.ensures.named c.in-Ok.ensures.asked
+    (ap (map (λ word. word.now)) c.as_slice.ensures.value) c.new-texts.ensures.given reads.given c.in-Ok.ensures.working in
     let asked : Asked = record {
       jobs = map (λ name. name.now) c.as_slice-6.result.now;
       printers = map (λ word. word.now) c.as_slice-7.result.now;
@@ -48,6 +53,7 @@ returns g c =
     } in
     inl (
       asked,
+      c.read_names.new.used,
       record {
         names = c.in-Ok-read_names.names.items;
         fleets = reads.fleets;
@@ -58,7 +64,11 @@ returns g c =
             ∙ ap (λ all. map (λ word. word.now) all ++ map string_bytes c.as_slice-3.result.now) c.as_slice-2.ensures.value
             ∙ ap (λ fleets. map (λ word. word.now) words.printers.items ++ map string_bytes fleets) c.as_slice-3.ensures.value
             ∙ ap (λ (of_fleets : List (List ℕ)). map (λ word. word.now) words.printers.items ++ of_fleets) reads.words_are;
-        are_names = c.in-Ok-read_names.ensures.read;
+        are_names =
+            subst
+            (λ front. AreNamesAt (option_map (λ word. word.now) words.names_from) front c.read_names.new.used
+            c.in-Ok-read_names.names.items)
+            told c.in-Ok-read_names.ensures.read;
         are_fleets = reads.are_fleets;
         most_items = refl;
         is_each = refl;
@@ -67,12 +77,13 @@ returns g c =
       },
       subst
           (λ err. LeavesFound words.allows_empty (option_map (λ word. word.now) words.names_from) c.in-Ok-read_names.names.items asked
-          c.check_found.result (g.O.Outlet.state c.args.stdout.now) (g.O.Outlet.state c.check_found.new.stdout) (g.E.Outlet.state err)
+          c.check_found.result c.read_names.new.used c.check_found.new.used
+          (g.O.Outlet.state c.args.stdout.now) (g.O.Outlet.state c.check_found.new.stdout) (g.E.Outlet.state err)
           (g.E.Outlet.state c.check_found.new.stderr))
           (c.in-Ok-read_names.ensures.quiet ∙ c.in-Ok.ensures.quiet)
           (subst
           (λ names. LeavesFound words.allows_empty (option_map (λ word. word.now) words.names_from) names asked c.check_found.result
-          (g.O.Outlet.state c.args.stdout.now) (g.O.Outlet.state c.check_found.new.stdout) (g.E.Outlet.state c.read_names.new.stderr)
-          (g.E.Outlet.state c.check_found.new.stderr))
+          c.read_names.new.used c.check_found.new.used (g.O.Outlet.state c.args.stdout.now) (g.O.Outlet.state c.check_found.new.stdout)
+          (g.E.Outlet.state c.read_names.new.stderr) (g.E.Outlet.state c.check_found.new.stderr))
           c.as_slice-8.ensures.value c.check_found.ensures),
     )

@@ -12,6 +12,7 @@ returns-then-is_refused_list g c =
           (subst (λ fault. RefusesList c.path_of-path.result.now fault c.refuse_list.result err err') c.list_fault.ensures
           c.refuse_list.ensures),
       refl,
+      refl,
     )
 
 pub returns : goal.returns

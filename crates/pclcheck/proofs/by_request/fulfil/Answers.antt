@@ -58,7 +58,7 @@ returns-in-ProfileNew g c =
     )
 
 pub returns-in-ProfileShow : goal.returns-in-ProfileShow
-returns-in-ProfileShow g c = asked _ _ _ _ _ _ _ _ _ _ c.in-ProfileShow.is (c.show.ensures, refl)
+returns-in-ProfileShow g c = asked _ _ _ _ _ _ _ _ _ _ c.in-ProfileShow.is c.show.ensures
 
 pub returns-in-ProfileSheet : goal.returns-in-ProfileSheet
 returns-in-ProfileSheet g c = asked _ _ _ _ _ _ _ _ _ _ c.in-ProfileSheet.is (c.sheet.ensures, refl)

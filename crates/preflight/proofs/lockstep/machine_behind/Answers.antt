@@ -1,5 +1,5 @@
 use Rattle.std.proofs.Common.{◌+◌, arith}
-use Rattle.preflight.proofs.Stood.{there_at}
+use Rattle.preflight.proofs.Spots.{there_at}
 use Rattle.preflight.proofs.lockstep.machine_behind.Goals as goal
 
 pub returns-then-left-eq0 : goal.returns-then-left-eq0

@@ -1,6 +1,6 @@
 use Rattle.preflight.specs.Carriers.Lockstep.{machines_of}
 use Rattle.preflight.specs.Stood.{IsSpotOf}
-use Rattle.preflight.proofs.Stood.{told_of}
+use Rattle.preflight.proofs.Spots.{told_of}
 use Rattle.preflight.proofs.stood.cursor_with.Goals as goal
 
 pub returns : goal.returns

@@ -4,7 +4,7 @@ use Rattle.pcl_items.specs.Items.{Entry}
 use Rattle.page_machine.specs.Still.{is_one_step}
 use Rattle.preflight.specs.Carriers.Lockstep.{machines_of}
 use Rattle.preflight.specs.Culprit.{IsCulprit}
-use Rattle.preflight.proofs.Stood.{stopped_is}
+use Rattle.preflight.proofs.Spots.{stopped_is}
 use Rattle.preflight.proofs.stood.stopped.Goals as goal
 
 pub returns : goal.returns

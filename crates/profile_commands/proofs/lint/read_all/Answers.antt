@@ -1,4 +1,5 @@
 use Rattle.std.proofs.Common.{◌+◌, ap, rules}
+use Rattle.named_inputs.proofs.FleetFacts.{named_all, named_front, named_more}
 use Rattle.profile_commands.proofs.ReadTexts.{AreRead-next, stops_at, stops_behind}
 use Rattle.profile_commands.proofs.lint.read_all.Goals as goal
 
@@ -28,4 +29,20 @@ loop-word-preserved g c =
       rw c.in-Ok-push_text.ensures
           (AreRead-next start now (λ word. word.now) c.args.words.now c.loop-word.word-index _ _ _ _ _ _
           (search rules) c.loop-word.invariant.1 c.loop-word.invariant.3 c.in-Ok.ensures.text),
+      named_more (λ word. word.now) c.args.words.now c.loop-word.word-index _ _ _ _ (search rules) c.loop-word.invariant.4
+          c.read_text.ensures.named,
     )
+
+pub returns-in-Err-clause-named : goal.returns-in-Err-clause-named
+returns-in-Err-clause-named g c =
+    named_front (λ word. word.now) c.args.words.now c.loop-word.word-index _ _ _ _ (search rules) c.loop-word.invariant.4
+    c.read_text.ensures.named
+
+pub returns-in_default-clause-named : goal.returns-in_default-clause-named
+returns-in_default-clause-named g c =
+    named_front (λ word. word.now) c.args.words.now c.loop-word.word-index _ _ _ _ (search rules) c.loop-word.invariant.4
+    c.read_text.ensures.named
+
+pub returns-clause-named : goal.returns-clause-named
+returns-clause-named g c =
+    named_all (λ word. word.now) c.args.words.now c.loop-word.word-index _ _ c.loop-word.invariant.4 (search rules)

@@ -1,4 +1,4 @@
-use Rattle.std.proofs.Common.{◌≡◌, IsFalse, map, take}
+use Rattle.std.proofs.Common.{◌≡◌, ◌++◌, IsFalse, map, take}
 use Rattle.profile_commands.specs.ProfileLint.{AreRead}
 use Rattle.profile_commands.proofs.lint.read_all.Given as goal
 
@@ -9,3 +9,5 @@ invariant-loop-word g l =
     × (l.stderr ≡ l.initial.stderr)
     × AreRead (g.T.ProfileTexts.text_of l.initial.texts) (map (λ word. word.now) (take l.word-index l.words))
     (g.T.ProfileTexts.given l.initial.texts) (g.T.ProfileTexts.given l.texts) l.all.items
+    × (g.T.ProfileTexts.named l.texts
+    ≡ g.T.ProfileTexts.named l.initial.texts ++ map (λ word. word.now) (take l.word-index l.words))

@@ -2,7 +2,7 @@ use Rattle.std.proofs.Common.{None, refl, subst}
 use Rattle.preflight.specs.Carriers.Lockstep.{machines_of}
 use Rattle.preflight.specs.Session.{SessionState}
 use Rattle.preflight.specs.Stood.{IsSpotOf, IsOfSession}
-use Rattle.preflight.proofs.Stood.{told_judged, told_open, told_stopped}
+use Rattle.preflight.proofs.Spots.{told_judged, told_open, told_stopped}
 use Rattle.preflight.proofs.session.Session.cursor.Goals as goal
 
 pub returns-in-Open : goal.returns-in-Open

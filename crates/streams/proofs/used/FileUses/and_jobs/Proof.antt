@@ -1,5 +1,5 @@
--- `and` makes the empty struct, with the jobs that its clause names. Assumes `Logic`.
-use Rattle.std.proofs.Common.{List, [], ◌∷◌, ◌++◌, refl}
+-- `and_jobs` makes the empty struct, with the uses that its clause names. Assumes `Logic`.
+use Rattle.std.proofs.Common.{List, [], ◌∷◌, ◌++◌, map, refl}
 use seplogic.Ra.Ura.{Ura}
 use mir.Syntax.{Fn}
 use mir.Val.{Val, vptr}
@@ -25,14 +25,14 @@ use denote.Triple.Entry.{alive}
 use denote.Triple.Spec.{Meets, triple_of}
 use denote.Triple.Table.{entered}
 use denote.Triple.Walked.{says, Stays, stay_dropped, walk_of, ends_at, walk_Meets, Goes-dropped}
-use Rattle.named_inputs.proofs.Walks.{none, none_made}
-use Rattle.named_inputs.specs.FileJobs.{state_at_end}
-use Rattle.named_inputs.specs.contracts.ended.Ended as Log
-use Rattle.named_inputs.specs.contracts.ended.JobEnd as JobEnd
-use Rattle.named_inputs.specs.contracts.ended.Ended.and as F
-use Rattle.named_inputs.specs.contracts.ended.Ended.and.Key.{name as #self}
-use Rattle.named_inputs.proofs.ended.Ended.and.Statement as stated
-use Rattle.named_inputs.proofs.ended.Ended.and.Code as code
+use Rattle.streams.proofs.Walks.{none, none_made}
+use Rattle.streams.specs.Used.{read_of_job}
+use Rattle.streams.specs.contracts.used.FileUses as Log
+use Rattle.streams.specs.contracts.ended.Ended as Jobs
+use Rattle.streams.specs.contracts.used.FileUses.and_jobs as F
+use Rattle.streams.specs.contracts.used.FileUses.and_jobs.Key.{name as #self}
+use Rattle.streams.proofs.used.FileUses.and_jobs.Statement as stated
+use Rattle.streams.proofs.used.FileUses.and_jobs.Code as code
 
 abbrev function : Fn
 function = code.function
@@ -62,7 +62,7 @@ module _ {M : Type 1} {𝓤 : Ura M} (𝓛 : Logic 𝓤) (at_mem : Memory → SP
         let vss = z.0.4 in
         let u : Val = vptr a.0.ref_ptr.0 a.0.ref_ptr.1 in
         let v : Val = vptr a.1.0.ref_ptr.0 a.1.0.ref_ptr.1 in
-        let log : (Log.the_row).Denot = record { jobs = a.0.now.jobs ++ state_at_end a.1.0.now ∷ [] } in
+        let log : (Log.the_row).Denot = record { uses = a.0.now.uses ++ map read_of_job a.1.0.now.jobs } in
         qed 𝓛 ((raw toks ⊛ ‵ (owns (types_at ended.signature.params z.0.0) a vss)) ∷ raw ((held z.0.0 a).requires z.1) ∷ []) ∵
         keep ! (0 ∷ []) $ split ! $ move ! (1 ∷ []) $ fsplit ! $ fsplit ! $
         feq_l ! (λ is₀. drop ! $ fsplit ! $ fsplit ! $ feq_l ! (λ is₁. drop ! $ drop ! $
@@ -79,13 +79,13 @@ module _ {M : Type 1} {𝓤 : Ura M} (𝓛 : Logic 𝓤) (at_mem : Memory → SP
   meets 𝓣 =
       walk_Meets 𝓛 ended stayed (
         Goes-dropped 𝓛 2 (RefOf (0 ∷ []) tt (plain (λ _. Log.the_row)) (λ _. tt)) yes (λ κs x f. refl),
-        (Goes-dropped 𝓛 2 (RefOf (1 ∷ []) tt (plain (λ _. JobEnd.the_row)) (λ _. tt)) yes (λ κs x f. refl), tt),
+        (Goes-dropped 𝓛 2 (RefOf (1 ∷ []) tt (plain (λ _. Jobs.the_row)) (λ _. tt)) yes (λ κs x f. refl), tt),
       ) held
       (WpFn 𝓤 H 𝓣.C 𝓣.Λ function) (WpFn-mono 𝓤 H 𝓛.laws 𝓣 function) (walks 𝓣.C 𝓣.Λ)
 
-pub and_spec : {M : Type 1} → stated.statement M
+pub and_jobs_spec : {M : Type 1} → stated.statement M
 unfolding tables_of
-and_spec 𝓤 𝓛 𝓜 𝓡 wired =
+and_jobs_spec 𝓤 𝓛 𝓜 𝓡 wired =
     let 𝓣 : Tables 𝓤 𝓛.H = tables_of 𝓤 𝓛.H 𝓜 (tables 𝓤 𝓛.H 𝓜 𝓡 𝓡.env) in
     entered 𝓤 𝓛.H (triple_of 𝓛 ended.signature (closing 𝓛 ended (held 𝓛 𝓜.mem 𝓡.returns))) 𝓣.C 𝓣.Λ #self function
     (code.unfolded 𝓤 𝓛.H 𝓜 𝓡 wired) (meets 𝓛 𝓜.mem 𝓡.returns 𝓣)

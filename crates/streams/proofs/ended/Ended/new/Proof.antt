@@ -23,12 +23,12 @@ use denote.Triple.Entry.{alive}
 use denote.Triple.Spec.{Meets, triple_of}
 use denote.Triple.Table.{entered}
 use denote.Triple.Walked.{says, Stays, walk_of, ends_at, walk_Meets}
-use Rattle.named_inputs.proofs.Walks.{none, none_made}
-use Rattle.named_inputs.specs.contracts.ended.Ended as Log
-use Rattle.named_inputs.specs.contracts.ended.Ended.new as F
-use Rattle.named_inputs.specs.contracts.ended.Ended.new.Key.{name as #self}
-use Rattle.named_inputs.proofs.ended.Ended.new.Statement as stated
-use Rattle.named_inputs.proofs.ended.Ended.new.Code as code
+use Rattle.streams.proofs.Walks.{none, none_made}
+use Rattle.streams.specs.contracts.ended.Ended as Log
+use Rattle.streams.specs.contracts.ended.Ended.new as F
+use Rattle.streams.specs.contracts.ended.Ended.new.Key.{name as #self}
+use Rattle.streams.proofs.ended.Ended.new.Statement as stated
+use Rattle.streams.proofs.ended.Ended.new.Code as code
 
 abbrev function : Fn
 function = code.function
