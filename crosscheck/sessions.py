@@ -88,8 +88,9 @@ STORED = (
     ("pages empty.pcl @B", 0, "", ""),
     ("pages unset_size.pcl gone.profile", 3, "", "ERROR read\n"),
     ("plain short.pcl short.pcl", 2, "", "error: OUT is JOB itself, which would be lost\n"),
-    ("explain 999", 2, "", "error: no fault, finding or note has the number or the name '999'; "
-                           "'pclcheck explain' writes all\n"),
+    ("explain 999", 2, "", "error: no fault, finding, note or command has the number or the name "
+                           "'999'; 'pclcheck explain' writes all, 'pclcheck explain commands' "
+                           "lists the commands\n"),
     ("profile new hp-laserjet-iii --size a4", 2, "",
      "error: no model has the name 'hp-laserjet-iii'; 'pclcheck profile list' names all\n"),
     ("profile new generic --size a4,folio", 2, "",

@@ -10,6 +10,7 @@ use crate::panel_words::ChoiceFault;
 use crate::picture_words::picture_request;
 use crate::profile_words::profile_request;
 use crate::short_helps::short_help;
+use crate::survey_words::survey_request;
 use crate::text_commands::{pin_request, text_request};
 use crate::word::{Word, first_stand_in, first_without_text, is_stand_in, without_zeros};
 use clap::ArgMatches;
@@ -84,6 +85,7 @@ pub fn read_words<'a, O: Outlet, E: Outlet>(
 fn form_of_answer(usual: Form, request: &Request<'_>) -> Form {
     match request {
         Request::CheckMany(many) => many.form,
+        Request::Survey { form, .. } => *form,
         _ => usual,
     }
 }
@@ -197,6 +199,9 @@ fn request_of<'a>(
 {
     if let Some(found) = matches.subcommand_matches("check") {
         return check_request(alloc, words, usual, found);
+    }
+    if let Some(found) = matches.subcommand_matches("survey") {
+        return Ok(survey_request(alloc, usual, found)?);
     }
     if let Some(found) = matches.subcommand_matches("pin") {
         return pin_request(alloc, found);

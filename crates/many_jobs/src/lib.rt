@@ -21,4 +21,5 @@ mod told_lines;
 
 pub use check_jobs::{ManyJobs, check_many};
 pub use fleet_file::read_fleet_file;
+pub use json_object::Object;
 pub use telling::{Format, Telling};

@@ -1,2 +1,3 @@
+mod CommandFacts
 pub mod ExplainFacts
 mod ExplainedReasons

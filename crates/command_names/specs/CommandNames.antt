@@ -1,0 +1,60 @@
+-- What is told of HP's commands: texts, of which each begins with a line of a key, a name and a state.
+use Rattle.std.specs.Prelude.{ℕ, ◌==◌, ◌+◌, ◌≤◌, ◌&&◌, ◌||◌, nat_eq, List, [], ◌∷◌, length, map, codes, Bool}
+use Rattle.std.specs.Prelude.{if◌then◌else◌}
+use Rattle.std.specs.List.{AllByRecursion, after_first, before_first, starts_with}
+use Rattle.std.specs.Str.{bytes_eq, str_eq_ignore_ascii_case}
+use Rattle.command_names.specs.declared.commands.TheConstants.{COMMANDS}
+
+-- the table, a text a command
+unfoldable pub table : List (List ℕ)
+table = map (λ text. text.now) COMMANDS
+
+-- ---- the parts of a text
+
+-- the key, by which a fault names the command, stands before the first space
+abbrev pub key_of : List ℕ → List ℕ
+key_of text = before_first (λ byte. byte == 32) text
+
+-- then the name, with its spelling in brackets, before a colon
+abbrev pub name_of : List ℕ → List ℕ
+name_of text = before_first (λ byte. byte == 58) (after_first (λ byte. byte == 32) text)
+
+abbrev pub head_of : List ℕ → List ℕ
+head_of text = before_first (λ byte. byte == 10) text
+
+-- the spelling, and the bracket behind it
+abbrev pub spelling_of : List ℕ → List ℕ
+spelling_of text = after_first (λ byte. byte == 40) (name_of text)
+
+-- the first line ends by whether the command is taken
+abbrev pub is_taken : List ℕ → Bool
+is_taken text = bytes_eq (after_first (λ byte. byte == 58) (head_of text)) (codes " taken")
+
+-- ---- the name of a command
+
+-- of the first of these that has a key, nothing where none has it
+abbrev pub named_by : List ℕ → List (List ℕ) → List ℕ
+named_by key [] = []
+named_by key (text ∷ texts) = if bytes_eq (key_of text) key then name_of text else named_by key texts
+
+abbrev pub command_name : List ℕ → List ℕ
+command_name key = named_by key table
+
+-- ---- whether a text is asked for
+
+-- the code is the spelling without that bracket
+abbrev pub begins_before_bracket : List ℕ → List ℕ → Bool
+begins_before_bracket spelling code = (length spelling == length code + 1) && starts_with nat_eq spelling code
+
+-- the code is the key, the spelling, or the name in any letter case
+abbrev pub is_of_command : List ℕ → List ℕ → Bool
+is_of_command code text =
+    bytes_eq (key_of text) code || begins_before_bracket (spelling_of text) code
+    || str_eq_ignore_ascii_case (name_of text) code
+
+-- ---- how long a name is
+
+-- at most so many bytes, and no control code
+pub record IsName (name : List ℕ) : Type 0 where
+  pub short : length name ≤ 60
+  pub shown : AllByRecursion (λ byte. 32 ≤ byte) name
