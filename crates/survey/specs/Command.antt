@@ -5,7 +5,7 @@ use Rattle.streams.specs.Ended.{JobRead, job_read}
 use Rattle.streams.specs.Outlet.{OutletState, Adds, AddsFront}
 use Rattle.streams.specs.Source.{SourceState}
 use Rattle.requests.specs.declared.many_words.Form.{Form}
-use Rattle.requests.specs.declared.many_words.Form.TheVariants.{Line, Words, Json}
+use Rattle.requests.specs.declared.many_words.Form.TheVariants.{Line, Words, Json, Html}
 use Rattle.requests.specs.declared.status.Status.{Status}
 use Rattle.requests.specs.declared.status.Status.TheVariants.{Help, Stopped}
 use Rattle.job_reports.specs.Refusals.{TellsUnread}
@@ -19,6 +19,7 @@ abbrev pub survey_text : Form → List (List ℕ) → Tally → List ℕ
 survey_text Line names tally = rows_text names tally
 survey_text Words names tally = rows_text names tally
 survey_text Json names tally = rows_objects names tally
+survey_text Html names tally = rows_text names tally
 
 -- The job of this name and number was read to its end, and what is told of it is counted; it is one more of those that
 -- were ended.

@@ -204,6 +204,7 @@ fn push_survey(
     match form {
         Form::Line => push_lines(text, names, table),
         Form::Words => push_lines(text, names, table),
+        Form::Html => push_lines(text, names, table),
         Form::Json => push_objects(alloc, text, names, table),
     }
 }
