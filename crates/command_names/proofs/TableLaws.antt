@@ -4,25 +4,31 @@ use Rattle.std.specs.Prelude.{nat_le, not, ◌&&◌, ◌||◌}
 use Rattle.std.specs.List.{AllByRecursion, list_all}
 use Rattle.std.specs.Str.{bytes_eq}
 use Rattle.std.proofs.lemmas.Bool.{and_parts, leb-true}
-use Rattle.command_names.specs.CommandNames.{IsName, command_name, is_taken, key_of, name_of, named_by, table}
-use Rattle.command_names.specs.Language.{TellLanguage, is_of_language, is_told, language, rises}
+use Rattle.command_names.specs.CommandNames.{IsName, command_name, is_taken, key_of, name_of, named_by, table, texts_of}
+use Rattle.command_names.specs.declared.chapters.TheConstants.{CHAPTERS}
+use Rattle.command_names.specs.Language.{TellLanguage, are_apart, is_of_language, is_told, language, rises}
 
 -- ---- the language
 
-rising : rises [] (map key_of table) ≡ true
-unfolding table
+rising : list_all (λ chapter. rises [] (map key_of (texts_of chapter))) CHAPTERS ≡ true
+unfolding texts_of
 rising = refl
 
+apart : are_apart (map key_of table) ≡ true
+unfolding table texts_of
+apart = refl
+
 each : list_all (is_told table) language ≡ true
-unfolding table
+unfolding table texts_of
 each = refl
 
 only : list_all (λ text. not (is_taken text) || is_of_language (key_of text)) table ≡ true
-unfolding table
+unfolding table texts_of
 only = refl
 
-pub tells_language : TellLanguage table
-tells_language = record { rising = rising; each = each; only = only }
+pub tells_language : TellLanguage CHAPTERS
+unfolding table
+tells_language = record { rising = rising; apart = apart; each = each; only = only }
 
 -- ---- the length of names
 
@@ -30,7 +36,7 @@ abbrev is_short : List ℕ → Bool
 is_short text = nat_le (length (name_of text)) 60 && list_all (nat_le 32) (name_of text)
 
 each_short : list_all is_short table ≡ true
-unfolding table
+unfolding table texts_of
 each_short = refl
 
 shown_by_test : (name : List ℕ) → list_all (nat_le 32) name ≡ true → AllByRecursion (λ byte. 32 ≤ byte) name

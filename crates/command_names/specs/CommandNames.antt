@@ -1,13 +1,33 @@
 -- What is told of HP's commands: texts, of which each begins with a line of a key, a name and a state.
 use Rattle.std.specs.Prelude.{ℕ, ◌==◌, ◌+◌, ◌≤◌, ◌&&◌, ◌||◌, nat_eq, List, [], ◌∷◌, length, map, codes, Bool}
-use Rattle.std.specs.Prelude.{if◌then◌else◌}
-use Rattle.std.specs.List.{AllByRecursion, after_first, before_first, starts_with}
+use Rattle.std.specs.Prelude.{Option, Some, None, if◌then◌else◌}
+use Rattle.std.specs.List.{AllByRecursion, after_first, before_first, flat_map, starts_with}
 use Rattle.std.specs.Str.{bytes_eq, str_eq_ignore_ascii_case}
-use Rattle.command_names.specs.declared.commands.TheConstants.{COMMANDS}
+use Rattle.command_names.specs.declared.chapters.Chapter.{Chapter}
+use Rattle.command_names.specs.declared.chapters.Chapter.TheVariants.{Controls, Layout, Fonts, Drawing, Frames, JobLines}
+use Rattle.command_names.specs.declared.chapters.TheConstants.{CHAPTERS}
+use Rattle.command_names.specs.declared.controls.TheConstants as controls
+use Rattle.command_names.specs.declared.layout.TheConstants as layout
+use Rattle.command_names.specs.declared.fonts.TheConstants as fonts
+use Rattle.command_names.specs.declared.drawing.TheConstants as drawing
+use Rattle.command_names.specs.declared.frames.TheConstants as frames
+use Rattle.command_names.specs.declared.job_lines.TheConstants as job_lines
 
--- the table, a text a command
+-- the texts of a chapter, one a command
+unfoldable pub texts_of : Chapter → List (List ℕ)
+texts_of Controls = map (λ text. text.now) controls.TEXTS
+texts_of Layout = map (λ text. text.now) layout.TEXTS
+texts_of Fonts = map (λ text. text.now) fonts.TEXTS
+texts_of Drawing = map (λ text. text.now) drawing.TEXTS
+texts_of Frames = map (λ text. text.now) frames.TEXTS
+texts_of JobLines = map (λ text. text.now) job_lines.TEXTS
+
+abbrev pub texts_in : List Chapter → List (List ℕ)
+texts_in chapters = flat_map texts_of chapters
+
+-- the table, those of all
 unfoldable pub table : List (List ℕ)
-table = map (λ text. text.now) COMMANDS
+table = texts_in CHAPTERS
 
 -- ---- the parts of a text
 
@@ -32,7 +52,12 @@ is_taken text = bytes_eq (after_first (λ byte. byte == 58) (head_of text)) (cod
 
 -- ---- the name of a command
 
--- of the first of these that has a key, nothing where none has it
+-- the first of these texts that has a key
+abbrev pub text_by : List ℕ → List (List ℕ) → Option (List ℕ)
+text_by key [] = None
+text_by key (text ∷ texts) = if bytes_eq (key_of text) key then Some text else text_by key texts
+
+-- the name of the first of these that has a key, nothing where none has it
 abbrev pub named_by : List ℕ → List (List ℕ) → List ℕ
 named_by key [] = []
 named_by key (text ∷ texts) = if bytes_eq (key_of text) key then name_of text else named_by key texts

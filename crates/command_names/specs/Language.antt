@@ -14,7 +14,8 @@ use Rattle.pcl_items.specs.Frames.Mnemonics.{letters_of, mnemonics}
 use Rattle.pcl_items.specs.Items.{Entry}
 use Rattle.pcl_items.specs.PjlLines.Text.{spelling}
 use Rattle.shown_bytes.specs.Shown.{hex_byte}
-use Rattle.command_names.specs.CommandNames.{is_taken, key_of}
+use Rattle.command_names.specs.CommandNames.{is_taken, key_of, texts_in, texts_of}
+use Rattle.command_names.specs.declared.chapters.Chapter.{Chapter}
 
 -- ---- the keys of what the language has
 
@@ -69,9 +70,15 @@ is_told texts key = list_any (λ text. bytes_eq (key_of text) key && is_taken te
 abbrev pub is_of_language : List ℕ → Bool
 is_of_language key = list_any (bytes_eq key) language
 
--- The keys rise, so that none is empty and none stands twice; each command of the language is told as taken, and
--- none else.
-pub record TellLanguage (texts : List (List ℕ)) : Type 0 where
-  pub rising : rises [] (map key_of texts) ≡ true
-  pub each : list_all (is_told texts) language ≡ true
-  pub only : list_all (λ text. not (is_taken text) || is_of_language (key_of text)) texts ≡ true
+-- no key stands twice
+abbrev pub are_apart : List (List ℕ) → Bool
+are_apart [] = true
+are_apart (key ∷ keys) = not (list_any (bytes_eq key) keys) && are_apart keys
+
+-- In each chapter the keys rise, so that none is empty, and in all of them none stands twice; each command of the
+-- language is told as taken, and none else.
+pub record TellLanguage (chapters : List Chapter) : Type 0 where
+  pub rising : list_all (λ chapter. rises [] (map key_of (texts_of chapter))) chapters ≡ true
+  pub apart : are_apart (map key_of (texts_in chapters)) ≡ true
+  pub each : list_all (is_told (texts_in chapters)) language ≡ true
+  pub only : list_all (λ text. not (is_taken text) || is_of_language (key_of text)) (texts_in chapters) ≡ true

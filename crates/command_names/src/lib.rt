@@ -1,7 +1,7 @@
 //! The commands of HP's manual: their names, and what is known of each, taken or refused.
 #![tactic(auto)]
 
-mod commands;
+mod chapters;
 mod controls;
 mod drawing;
 mod fonts;
@@ -11,6 +11,6 @@ mod laws;
 mod layout;
 mod names;
 
-pub use commands::COMMANDS;
+pub use chapters::{CHAPTERS, Chapter};
 pub use laws::{commands_are_told, names_are_short};
-pub use names::{command_name, head_of, is_of_command, name_of, named_by};
+pub use names::{command_name, head_of, is_of_command, name_of};

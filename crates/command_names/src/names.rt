@@ -1,5 +1,5 @@
 //! The parts of a text on a command, and the name of a command by its key.
-ghost use Rattle.std.specs.Prelude.{◌≡◌, ◌==◌, ◌<◌, map};
+ghost use Rattle.std.specs.Prelude.{◌≡◌, ◌==◌, ◌<◌, map, option_map};
 ghost use Rattle.std.specs.List.{after_first, before_first};
 ghost use Rattle.std.specs.Str.{bytes_eq};
 ghost use Rattle.command_names.specs.CommandNames.{
@@ -10,28 +10,44 @@ ghost use Rattle.command_names.specs.CommandNames.{
   key_of,
   name_of,
   named_by,
+  text_by,
+  texts_in,
 };
 
-use crate::commands::COMMANDS;
+use crate::chapters::{CHAPTERS, Chapter};
 
 /// The name of a command by its key, as a fault names it in brackets; nothing where the manual has
 /// none: `page length (&l#P)` of `&lP`.
+#[tactic(auto, unfolding(crate::specs::CommandNames::table))]
 pub fn command_name(key: &[u8]) -> &'static str
     ensures { result.now ≡ command_name key.now }
 {
-    named_by(key, &COMMANDS)
+    named_in(key, &CHAPTERS)
 }
 
-/// The name of the first of these commands that has a key, and nothing where none has it.
-pub fn named_by<'t>(key: &[u8], texts: &[&'t str]) -> &'t str
-    ensures { result.now ≡ named_by key.now (map (λ text. text.now) texts.now) }
+/// The name of the first command in these chapters that has a key, and nothing where none has it.
+fn named_in(key: &[u8], chapters: &[Chapter]) -> &'static str
+    ensures { result.now ≡ named_by key.now (texts_in chapters.now) }
 {
-    for text in texts {
-        if has_key(key, text) {
+    for chapter in chapters {
+        if let Some(text) = text_by(key, chapter.texts()) {
             return name_of(text);
         }
     }
     ""
+}
+
+/// The first of these texts that is on the command of a key.
+fn text_by<'t>(key: &[u8], texts: &[&'t str]) -> Option<&'t str>
+    ensures { option_map (λ text. text.now) result
+        ≡ text_by key.now (map (λ text. text.now) texts.now) }
+{
+    for text in texts {
+        if has_key(key, text) {
+            return Some(text);
+        }
+    }
+    None
 }
 
 /// Whether a text is on the command of a key.

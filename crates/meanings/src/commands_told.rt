@@ -2,20 +2,22 @@
 ghost use Rattle.std.specs.Prelude.{◌≡◌, IfErr, IsFalse, false, filter, is_err, map, option_map};
 ghost use Rattle.std.specs.List.{concat, list_any};
 ghost use Rattle.streams.specs.Writing.{Writes};
+ghost use Rattle.command_names.specs.CommandNames.{texts_in};
 ghost use Rattle.meanings.specs.CommandsTold.{asks_for_list, asks_of, asks_of_commands, list_line};
 ghost use Rattle.meanings.specs.CommandsTold.{told_of_commands};
 ghost use Rattle.meanings.specs.Explanations.{end_of_explain};
 
-use command_names::{head_of, is_of_command};
+use command_names::{Chapter, head_of, is_of_command};
 use requests::Status;
 use streams::{Error, Outlet, write_text};
 
-/// Whether a code asks for the list of commands, or a text on a command is about it.
-pub(crate) fn asks_of_commands(commands: &[&str], code: Option<&str>) -> bool
-    ensures { result ≡ asks_of_commands (map (λ text. text.now) commands.now)
+/// Whether a code asks for the list of commands, or a text on a command of these chapters is about
+/// it.
+pub(crate) fn asks_of_commands(chapters: &[Chapter], code: Option<&str>) -> bool
+    ensures { result ≡ asks_of_commands (texts_in chapters.now)
         (option_map (λ word. word.now) code.entry) }
 {
-    asks_for_list(code) || asks_of_some(commands, code)
+    asks_for_list(code) || asks_of_chapters(chapters, code)
 }
 
 /// Whether a code asks for the list of commands.
@@ -26,6 +28,19 @@ fn asks_for_list(code: Option<&str>) -> bool
         Some(code) => code == "commands",
         None => false,
     }
+}
+
+/// Whether a text of one of these chapters is about a code.
+fn asks_of_chapters(chapters: &[Chapter], code: Option<&str>) -> bool
+    ensures { result ≡ list_any (asks_of (option_map (λ word. word.now) code.entry))
+        (texts_in chapters.now) }
+{
+    for chapter in chapters {
+        if asks_of_some(chapter.texts(), code) {
+            return true;
+        }
+    }
+    false
 }
 
 /// Whether one of these texts is about a code.
@@ -51,19 +66,19 @@ fn asks_of(code: Option<&str>, text: &str) -> bool
     }
 }
 
-/// Writes what is known of commands.
+/// Writes what is known of the commands of these chapters.
 pub(crate) fn tell_commands<O: Outlet>(
-    commands: &[&str],
+    chapters: &[Chapter],
     code: Option<&str>,
     stdout: &mut O,
 ) -> Status
     requires { IsFalse (O.state stdout.old).failed }
     ensures text { Writes (O.state stdout.old) (O.state stdout.new)
-        (told_of_commands (map (λ text. text.now) commands.now)
+        (told_of_commands (texts_in chapters.now)
         (option_map (λ word. word.now) code.entry)) }
     ensures status { result ≡ end_of_explain false (O.state stdout.new).failed }
 {
-    match write_commands(commands, code, stdout) {
+    match write_commands(chapters, code, stdout) {
         Ok(()) => Status::Help,
         Err(error) => Status::Stopped(error),
     }
@@ -71,21 +86,35 @@ pub(crate) fn tell_commands<O: Outlet>(
 
 /// Writes the list of commands, or the texts that are asked for.
 fn write_commands<O: Outlet>(
-    commands: &[&str],
+    chapters: &[Chapter],
     code: Option<&str>,
     stdout: &mut O,
 ) -> Result<(), Error>
     requires { IsFalse (O.state stdout.old).failed }
     ensures text { Writes (O.state stdout.old) (O.state stdout.new)
-        (told_of_commands (map (λ text. text.now) commands.now)
+        (told_of_commands (texts_in chapters.now)
         (option_map (λ word. word.now) code.entry)) }
     ensures err { IfErr result (λ error. error ≡ Error.Write) }
     ensures status { (O.state stdout.new).failed ≡ is_err result }
 {
     if asks_for_list(code) {
-        return write_list(commands, stdout);
+        return write_lists(chapters, stdout);
     }
-    write_asked_commands(commands, code, stdout)
+    write_asked_of_chapters(chapters, code, stdout)
+}
+
+/// Writes a line for each command of these chapters.
+fn write_lists<O: Outlet>(chapters: &[Chapter], stdout: &mut O) -> Result<(), Error>
+    requires { IsFalse (O.state stdout.old).failed }
+    ensures text { Writes (O.state stdout.old) (O.state stdout.new)
+        (concat (map list_line (texts_in chapters.now))) }
+    ensures err { IfErr result (λ error. error ≡ Error.Write) }
+    ensures status { (O.state stdout.new).failed ≡ is_err result }
+{
+    for chapter in chapters {
+        write_list(chapter.texts(), stdout)?;
+    }
+    Ok(())
 }
 
 /// Writes a line for each command.
@@ -112,6 +141,25 @@ fn list_line(text: &str) -> &[u8]
         return bytes;
     }
     &bytes[..end]
+}
+
+/// Writes the texts of these chapters that are asked for, one behind another.
+fn write_asked_of_chapters<O: Outlet>(
+    chapters: &[Chapter],
+    code: Option<&str>,
+    stdout: &mut O,
+) -> Result<(), Error>
+    requires { IsFalse (O.state stdout.old).failed }
+    ensures text { Writes (O.state stdout.old) (O.state stdout.new)
+        (concat (filter (asks_of (option_map (λ word. word.now) code.entry))
+        (texts_in chapters.now))) }
+    ensures err { IfErr result (λ error. error ≡ Error.Write) }
+    ensures status { (O.state stdout.new).failed ≡ is_err result }
+{
+    for chapter in chapters {
+        write_asked_commands(chapter.texts(), code, stdout)?;
+    }
+    Ok(())
 }
 
 /// Writes the texts that are asked for, one behind another.

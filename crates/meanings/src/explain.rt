@@ -3,14 +3,14 @@ ghost use Rattle.std.specs.Prelude.{◌≡◌, ◌==◌, ◌<◌, decimal, map, 
 ghost use Rattle.std.specs.Prelude.{IsFalse, IsTrue};
 ghost use Rattle.std.specs.List.{before_first, after_first, list_any};
 ghost use Rattle.streams.specs.Writing.{Writes};
-ghost use Rattle.command_names.specs.CommandNames.{table};
+ghost use Rattle.command_names.specs.CommandNames.{table, texts_in};
 ghost use Rattle.meanings.specs.CommandsTold.{is_unheard, told};
 ghost use Rattle.meanings.specs.Explanations.{complaint, end_of_explain, explained_by, explanation};
 ghost use Rattle.meanings.specs.Explanations.{is_about, is_asked, is_unknown};
 
 use crate::commands_told::{asks_of_commands, tell_commands};
 use crate::explanations::EXPLANATIONS;
-use command_names::COMMANDS;
+use command_names::{CHAPTERS, Chapter};
 use itoa::Buffer;
 use requests::{Status, write_pieces};
 use streams::{Error, Outlet, write_text};
@@ -39,13 +39,14 @@ pub fn explain<O: Outlet, E: Outlet>(code: Option<&str>, stdout: &mut O, stderr:
     ensures quiet { IsFalse (is_unheard (map (λ text. text.now) EXPLANATIONS) table
         (option_map (λ word. word.now) code.entry)) → stderr.new ≡ stderr.old }
 {
-    explain_of(&EXPLANATIONS, &COMMANDS, code, stdout, stderr)
+    explain_of(&EXPLANATIONS, &CHAPTERS, code, stdout, stderr)
 }
 
-/// Writes what is known of a code out of these texts, where commands have the first word.
+/// Writes what is known of a code out of these texts, where the commands of these chapters have
+/// the first word.
 fn explain_of<O: Outlet, E: Outlet>(
     texts: &[&str],
-    commands: &[&str],
+    chapters: &[Chapter],
     code: Option<&str>,
     stdout: &mut O,
     stderr: &mut E,
@@ -53,26 +54,26 @@ fn explain_of<O: Outlet, E: Outlet>(
     requires stdout { IsFalse (O.state stdout.old).failed }
     requires stderr { IsFalse (E.state stderr.old).failed }
     ensures text { IsFalse (is_unheard (map (λ text. text.now) texts.now)
-        (map (λ text. text.now) commands.now) (option_map (λ word. word.now) code.entry)) →
+        (texts_in chapters.now) (option_map (λ word. word.now) code.entry)) →
         Writes (O.state stdout.old) (O.state stdout.new)
-        (told (map (λ text. text.now) texts.now) (map (λ text. text.now) commands.now)
+        (told (map (λ text. text.now) texts.now) (texts_in chapters.now)
         (option_map (λ word. word.now) code.entry)) }
     ensures untouched { IsTrue (is_unheard (map (λ text. text.now) texts.now)
-        (map (λ text. text.now) commands.now) (option_map (λ word. word.now) code.entry)) →
+        (texts_in chapters.now) (option_map (λ word. word.now) code.entry)) →
         stdout.new ≡ stdout.old }
     ensures status { result ≡ end_of_explain (is_unheard (map (λ text. text.now) texts.now)
-        (map (λ text. text.now) commands.now) (option_map (λ word. word.now) code.entry))
+        (texts_in chapters.now) (option_map (λ word. word.now) code.entry))
         (O.state stdout.new).failed }
     ensures complaint { IsTrue (is_unheard (map (λ text. text.now) texts.now)
-        (map (λ text. text.now) commands.now) (option_map (λ word. word.now) code.entry)) →
+        (texts_in chapters.now) (option_map (λ word. word.now) code.entry)) →
         Writes (E.state stderr.old) (E.state stderr.new)
         (complaint (option_map (λ word. word.now) code.entry)) }
     ensures quiet { IsFalse (is_unheard (map (λ text. text.now) texts.now)
-        (map (λ text. text.now) commands.now) (option_map (λ word. word.now) code.entry)) →
+        (texts_in chapters.now) (option_map (λ word. word.now) code.entry)) →
         stderr.new ≡ stderr.old }
 {
-    if asks_of_commands(commands, code) {
-        return tell_commands(commands, code, stdout);
+    if asks_of_commands(chapters, code) {
+        return tell_commands(chapters, code, stdout);
     }
     explain_from(texts, code, stdout, stderr)
 }
