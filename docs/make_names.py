@@ -10,7 +10,6 @@ from dataclasses import dataclass
 from make_commands import commands as rows_of_commands
 from tree import Tree, Unreadable
 
-TABLE = "crates/command_names/src/commands.rt"
 TEXTS = "crates/command_names/src/{}.rt"
 HEAD = re.compile(r"(\S+) (.+) \((.+)\): (taken|refused)")
 # The parts of REFUSED, by the files that have their texts.
@@ -37,16 +36,10 @@ class Told:
 
 
 def texts(tree: Tree) -> list[Told]:
-    """All texts, in the order of the table."""
-    constants = {}
-    for file in PARTS:
-        found = re.findall(r'^pub\(crate\) const (\w+): &str = "\\\n(.*?)\n";$',
-                           tree.text(TEXTS.format(file)), re.MULTILINE | re.DOTALL)
-        constants |= {f"{file}::{name}": (file, text) for name, text in found}
-    order = re.findall(r"^    (\w+::\w+),$", tree.text(TABLE), re.MULTILINE)
-    if sorted(order) != sorted(constants):
-        raise Unreadable(f"{TABLE} does not list each text of a command once")
-    return [told_of(*constants[name]) for name in order]
+    """All texts, by their files, and in each in the order of its table."""
+    return [told_of(file, text) for file in PARTS
+            for text in re.findall(r'^    "\\\n(.*?)\n",$', tree.text(TEXTS.format(file)),
+                                   re.MULTILINE | re.DOTALL)]
 
 
 def told_of(file: str, text: str) -> Told:

@@ -1,3 +1,4 @@
+mod ChapterFacts
 mod CommandFacts
 pub mod ExplainFacts
 mod ExplainedReasons
