@@ -4,7 +4,8 @@ use Rattle.std.specs.Prelude.{Option, Some, None, if◌then◌else◌}
 use Rattle.std.specs.List.{AllByRecursion, after_first, before_first, flat_map, starts_with}
 use Rattle.std.specs.Str.{bytes_eq, str_eq_ignore_ascii_case}
 use Rattle.command_names.specs.declared.chapters.Chapter.{Chapter}
-use Rattle.command_names.specs.declared.chapters.Chapter.TheVariants.{Controls, Layout, Fonts, Drawing, Frames, JobLines}
+use Rattle.command_names.specs.declared.chapters.Chapter.TheVariants.{Controls, Layout, Fonts, Drawing, Frames}
+use Rattle.command_names.specs.declared.chapters.Chapter.TheVariants.{JobLines}
 use Rattle.command_names.specs.declared.chapters.TheConstants.{CHAPTERS}
 use Rattle.command_names.specs.declared.controls.TheConstants as controls
 use Rattle.command_names.specs.declared.layout.TheConstants as layout
