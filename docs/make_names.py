@@ -90,7 +90,7 @@ def counts(tree: Tree) -> str:
     for told in taken:
         if told.file != "job_lines":
             compare_taken(told, rows)
-    return (f"It has {len(all_texts)} commands: {len(taken)} are taken, "
+    return (f"The list has {len(all_texts)} commands: {len(taken)} are taken, "
             f"{len(all_texts) - len(taken)} refused.")
 
 
