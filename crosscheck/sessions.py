@@ -81,7 +81,8 @@ STORED = (
      "jobs come behind -p or -f (ERROR profile 1 Version)\n"),
     ("check --format xml ruled_form.pcl @B", 2, "",
      "error: invalid value 'xml' for '--format <FORM>'\n"
-     "  [possible values: line, words, json, html]\n\nFor more information, try '--help'.\n"),
+     "  [possible values: line, words, json, html]\n\n  tip: a similar value exists: 'html'\n\n"
+     "For more information, try '--help'.\n"),
     ("list short.pcl", 0, "0 \\x1bE\n2 A\n3 \\x1b&l2A\n8 \\x0c\n", ""),
     ("list faulty.pcl", 1, "0 A\n1 FAULT 3 NotInProfile(Q)\n", ""),
     ("list gone.pcl", 3, "", "ERROR read\n"),
