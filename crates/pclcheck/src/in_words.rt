@@ -2,6 +2,7 @@
 //!
 //! No text means that there is nothing to tell, or no memory for it.
 
+use crate::held_lines::sentence_of_line;
 use device_profile::Cause;
 use job_reports::{
     is_pipe, push_cause_phrase, push_named_first, push_refused_profile_sentence,
@@ -22,6 +23,15 @@ const FRONT_OF_PROFILE: &[u8] = b"pclprofile ";
 
 /// The name of a file that is made and removed, to learn why none can be made in a folder.
 const TRIED: &str = ".pclcheck-tried.out";
+
+/// Tells what a request would have told meanwhile, as far as it can be written: a line on what it
+/// names by a sentence.
+pub fn tell_held<E: Outlet>(alloc: Global, request: &Request<'_>, held: &[u8], stderr: &mut E) {
+    match sentence_of_line(alloc, request, held) {
+        Some(text) => write(text.as_slice(), stderr),
+        None => write(held, stderr),
+    }
+}
 
 /// Tells how a request ended, as far as it can be written. A file that could not be read is looked
 /// for among those of the request, by opening them again; why one could not be written is learnt by
