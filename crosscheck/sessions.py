@@ -78,7 +78,8 @@ STORED = (
      '{"job":"ruled_form.pcl","marks":36,"pages":2,"printer":"B","verdict":"PASS"}\n', ""),
     ("check --format words -p invoice.pcl ruled_form.pcl", 2, "",
      "invoice.pcl: line 1: this is neither 'pclprofile 1' nor 'pclprofile 2', so no profile; "
-     "jobs come behind -p or -f (ERROR profile 1 Version)\n"),
+     "jobs come behind -p or -f (ERROR profile 1 Version)\n"
+     "invoice.pcl: this is a job, where a profile has to stand; -p takes a profile\n"),
     ("check --format xml ruled_form.pcl @B", 2, "",
      "error: invalid value 'xml' for '--format <FORM>'\n"
      "  [possible values: line, words, json, html]\n\nFor more information, try '--help'.\n"),
