@@ -14,6 +14,7 @@ use command_line::{Word, form_of, read_words};
 use named_inputs::KeptText;
 use requests::{Form, Request, Status, tell};
 use std::alloc::{AllocError, Global};
+use std::convert::AsStr;
 use std::env::{FillError, VarError};
 use std::io::{Input, Print};
 use std::os::fd::{AsRawFd, IntoRawFd, RawFd};
@@ -70,6 +71,9 @@ fn run<R: Env + Files + Input + Print + AllocGlobal, O: Outlet, E: Outlet>(
     };
     match usual {
         Some(usual) => fulfil_words(rt, words.as_slice(), usual, stdout, stderr),
+        None if ask_for_form(words.as_slice()) => {
+            fulfil_words(rt, words.as_slice(), Form::Line, stdout, stderr)
+        }
         None => refuse_work(rt.alloc(), words.as_slice(), stdout, stderr),
     }
 }
@@ -123,6 +127,16 @@ fn form_or_line(word: &str) -> Option<Form> {
         return Some(Form::Line);
     }
     form_of(word)
+}
+
+/// Whether words have an option for the form, so that the environment is not looked at.
+fn ask_for_form(words: &[Word]) -> bool {
+    for word in words {
+        if word.as_str().starts_with("--format") {
+            return true;
+        }
+    }
+    false
 }
 
 /// Refuses the form of the environment, unless the words ask for help, or are wrong themselves.
