@@ -23,8 +23,8 @@ DOCUMENTS = (ROOT / "README.md", *sorted(ROOT.glob("examples/*.md")),
 SETTING = re.compile(r"cd examples$|alias pclcheck=")
 
 GONE = "No such file or directory"
-INPUT_AGAIN = ("error: standard input can be read only once: as one job or as the list, and not "
-               "with --notes, or --each for several printers, which read a job again\n")
+INPUT_AGAIN = ("error: standard input can be read only once, as one job or as the list, without "
+               "--notes and --each\n")
 PIPE_AGAIN = ("error: /dev/null: a job that is no file can be read only once; "
               "--each reads it for each printer, and --notes once more\n")
 PIPE_TO_DRAW = ("error: /dev/null: a job that is no file can be read only once; "

@@ -112,7 +112,7 @@ On standard error, where there is no verdict:
 
   For many jobs: ERROR profile N PROFILE:LINE CAUSE, ERROR read profile PROFILE: WHY,
   ERROR read fleet FILE: WHY, ERROR fleet FILE: WHY and ERROR read names FILE: WHY. With --format
-  words a profile has a sentence, which ends with (ERROR profile N CAUSE) or (ERROR read).
+  words each is a sentence, which ends with (ERROR profile N CAUSE), (ERROR fleet) or (ERROR read).
 
   'pclcheck --format words list gone.pcl' tells of each command what stands in its way by a sentence.
   The variable PCLCHECK_FORMAT is line, words, json or html: the form where no --format comes.
