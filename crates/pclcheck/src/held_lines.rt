@@ -14,6 +14,7 @@ enum Subject {
     UnreadNames,
     UnreadProfile,
     UnreadAnswer,
+    UnreadJob,
 }
 
 impl Subject {
@@ -25,6 +26,7 @@ impl Subject {
             Subject::UnreadNames => "ERROR read names ",
             Subject::UnreadProfile => "ERROR read profile ",
             Subject::UnreadAnswer => "ERROR read answer ",
+            Subject::UnreadJob => "ERROR read job ",
         }
     }
 
@@ -36,6 +38,7 @@ impl Subject {
             Subject::UnreadNames => "this list of jobs cannot be read",
             Subject::UnreadProfile => "this profile cannot be read",
             Subject::UnreadAnswer => "this answer cannot be read",
+            Subject::UnreadJob => "this job cannot be read",
         }
     }
 
@@ -52,6 +55,9 @@ impl Subject {
 pub fn sentence_of_line(alloc: Global, request: &Request<'_>, line: &[u8]) -> Option<Vec<u8>> {
     match request {
         Request::CheckMany(many) => of_check(alloc, many, line),
+        Request::Survey { jobs, .. } => {
+            first_of(alloc, jobs.as_slice(), Subject::UnreadJob, line)
+        }
         Request::ProfileLint { profiles } => {
             first_of(alloc, profiles.as_slice(), Subject::UnreadProfile, line)
         }
