@@ -1,21 +1,18 @@
-"""Makes the table of the commands that are refused, of the texts that `explain` writes of commands.
+"""Makes the sentence on how many commands `explain` tells of, and compares its texts of them.
 
-Those of commands that are taken are compared with the table of commands of DEFINITIONS: values,
-fields that are read, and findings.
+What it writes of a command that is taken has the values, the fields that are read and the findings
+of its row in the table of commands of DEFINITIONS, or no sentence is made.
 """
 
 import re
 from dataclasses import dataclass
 
-from make_commands import commands as rows_of_commands
+from make_commands import commands
 from tree import Tree, Unreadable
 
 TEXTS = "crates/command_names/src/{}.rt"
 HEAD = re.compile(r"(\S+) (.+) \((.+)\): (taken|refused)")
-# The parts of REFUSED, by the files that have their texts.
-PARTS = {"controls": "Control codes", "layout": "Jobs, pages, text and macros",
-         "fonts": "Fonts", "drawing": "Rectangles, rasters, patterns, colour, status",
-         "frames": "HP-GL/2", "job_lines": "Lines of the job language"}
+FILES = ("controls", "layout", "fonts", "drawing", "frames", "job_lines")
 # How the table of DEFINITIONS spells what has no spelling of a command with a number.
 SPELLED = {"*rB": "*r#B", "*rC": "*r#C"}
 # What these do not take is refused by another form of them.
@@ -37,9 +34,14 @@ class Told:
 
 def texts(tree: Tree) -> list[Told]:
     """All texts, by their files, and in each in the order of its table."""
-    return [told_of(file, text) for file in PARTS
-            for text in re.findall(r'^    "\\\n(.*?)\n",$', tree.text(TEXTS.format(file)),
-                                   re.MULTILINE | re.DOTALL)]
+    told = []
+    for file in FILES:
+        source = tree.text(TEXTS.format(file))
+        found = re.findall(r'^    "\\\n(.*?)\n",$', source, re.MULTILINE | re.DOTALL)
+        if f"const TEXTS: [&str; {len(found)}] = [" not in source:
+            raise Unreadable(f"{TEXTS.format(file)} has texts in another form than is read")
+        told += [told_of(file, text) for text in found]
+    return told
 
 
 def told_of(file: str, text: str) -> Told:
@@ -52,7 +54,16 @@ def told_of(file: str, text: str) -> Told:
     return Told(*found.groups(), file, {label: " ".join(said.split()) for label, said in lines})
 
 
-def compare_taken(tree: Tree, told: Told, rows: dict[str, list[str]]) -> None:
+def rows_of_commands(tree: Tree) -> dict[str, list[str]]:
+    """The table of commands: by the bytes of each row its other four cells."""
+    rows = {}
+    for line in commands(tree).split("\n"):
+        bytes_of, *cells = line.split(" | ")
+        rows[bytes_of] = cells + [""] * (4 - len(cells))
+    return rows
+
+
+def compare_taken(told: Told, rows: dict[str, list[str]]) -> None:
     """Compares what is told of a command that is taken with its row of the table of commands."""
     spelling = SPELLED.get(told.key, told.spelling)
     forms = (f"`ESC {spelling}`", f"`{spelling}`", f"`ESC {spelling[:2]}`letter",
@@ -70,29 +81,15 @@ def compare_taken(tree: Tree, told: Told, rows: dict[str, list[str]]) -> None:
                              f"and its row `{said}`")
 
 
-def refused(tree: Tree) -> str:
-    """The table of the commands that are refused, by the files of their texts."""
-    table = re.findall(r"^\| (.+?) \| (.*?) \| (.*?) \| (.*?) \| (.*?) \|$", rows_of_commands(tree),
-                       re.MULTILINE)
-    rows = {bytes_of: cells for bytes_of, *cells in table}
-    all_texts = texts(tree)
-    for told in all_texts:
-        if told.state == "taken" and told.file != "job_lines":
-            compare_taken(tree, told, rows)
-    said = ["| Command | Name | Why it is refused | Instead |", "|---|---|---|---|"]
-    for file, title in PARTS.items():
-        said.append(f"| *{title}* | | | |")
-        said += [f"| `{told.spelling}` | {told.name} | {told.cells['Why']} "
-                 f"| {told.cells.get('Instead', '')} |"
-                 for told in all_texts if told.file == file and told.state == "refused"]
-    return "\n".join(said)
-
-
 def counts(tree: Tree) -> str:
-    """How many commands are told of, and how many of them are taken."""
-    states = [told.state for told in texts(tree)]
-    return (f"The table has {len(states)} commands, of which {states.count('taken')} are taken and "
-            f"{states.count('refused')} refused.")
+    """How many commands are told of, and how many of them are taken, which are compared."""
+    rows, all_texts = rows_of_commands(tree), texts(tree)
+    taken = [told for told in all_texts if told.state == "taken"]
+    for told in taken:
+        if told.file != "job_lines":
+            compare_taken(told, rows)
+    return (f"The list has {len(all_texts)} commands: {len(taken)} are taken, "
+            f"{len(all_texts) - len(taken)} refused.")
 
 
-MAKERS = {"refused commands": refused, "count of commands": counts}
+MAKERS = {"count of commands": counts}

@@ -16,7 +16,8 @@ use std::convert::AsStr;
 const VERSION: &str = "0.1.0";
 
 const EXPLAIN_EXPLANATION: &str =
-    "CODE is a number, or a name in any letter case; what stands behind it in brackets may come, too.
+    "CODE is a number, or a name in any letter case; the number before it may come, too, and what stands
+behind it in brackets, as in '12 Unset(Size)'. For ERROR items it is items.
 
 It may also be a command of printers: as a FAIL names it ('&lP', x09, AA), as it is spelled
 ('&l#P', HT) or as HP's manual calls it. The code commands lists them, taken or refused.

@@ -7,6 +7,9 @@ use requests::Form;
 /// The words of the forms.
 pub(crate) const FORMS: &[&str] = &["line", "words", "json", "html"];
 
+/// The words of the forms of a survey, which knows no document.
+pub(crate) const SURVEY_FORMS: &[&str] = &["line", "words", "json"];
+
 /// The option of the program itself for the form of what each command tells.
 pub(crate) const FORMAT: OptionRow = OptionRow {
     id: "FORM",

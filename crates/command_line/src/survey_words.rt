@@ -2,7 +2,7 @@
 ghost use Rattle.std.specs.Prelude.{IfOk, IfSome};
 ghost use Rattle.requests.specs.Words.{NamesSome};
 
-use crate::form_words::{FORMS, form_asked};
+use crate::form_words::{SURVEY_FORMS, form_asked};
 use crate::rows::{CommandRow, Count, Need, OptionRow, Value, WordRow};
 use crate::texts::texts_of;
 use clap::ArgMatches;
@@ -48,7 +48,7 @@ pub(crate) const SURVEY: &CommandRow = &CommandRow {
         short: None,
         long: "format",
         value: Value::OneOf {
-            words: FORMS,
+            words: SURVEY_FORMS,
             usual: None,
         },
         excludes: None,

@@ -1,13 +1,12 @@
 //! Control codes.
 ghost use Rattle.std.specs.Prelude.{◌≡◌, map};
 ghost use Rattle.command_names.specs.CommandNames.{texts_of};
-
-use crate::chapters::Chapter;
+ghost use Rattle.command_names.specs.declared.chapters.Chapter.TheVariants.{Controls};
 
 /// The texts of this chapter.
 #[tactic(auto, unfolding(crate::specs::CommandNames::texts_of))]
 pub(crate) fn texts() -> &'static [&'static str]
-    ensures { map (λ text. text.now) result.now ≡ texts_of Chapter.Controls }
+    ensures { map (λ text. text.now) result.now ≡ texts_of Controls }
 {
     &TEXTS
 }

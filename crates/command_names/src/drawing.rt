@@ -1,13 +1,12 @@
 //! Commands of rectangles, rasters, patterns, colours and the status: those behind ESC `*`.
 ghost use Rattle.std.specs.Prelude.{◌≡◌, map};
 ghost use Rattle.command_names.specs.CommandNames.{texts_of};
-
-use crate::chapters::Chapter;
+ghost use Rattle.command_names.specs.declared.chapters.Chapter.TheVariants.{Drawing};
 
 /// The texts of this chapter.
 #[tactic(auto, unfolding(crate::specs::CommandNames::texts_of))]
 pub(crate) fn texts() -> &'static [&'static str]
-    ensures { map (λ text. text.now) result.now ≡ texts_of Chapter.Drawing }
+    ensures { map (λ text. text.now) result.now ≡ texts_of Drawing }
 {
     &TEXTS
 }

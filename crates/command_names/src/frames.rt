@@ -1,13 +1,12 @@
 //! Commands of a frame of HP-GL/2.
 ghost use Rattle.std.specs.Prelude.{◌≡◌, map};
 ghost use Rattle.command_names.specs.CommandNames.{texts_of};
-
-use crate::chapters::Chapter;
+ghost use Rattle.command_names.specs.declared.chapters.Chapter.TheVariants.{Frames};
 
 /// The texts of this chapter.
 #[tactic(auto, unfolding(crate::specs::CommandNames::texts_of))]
 pub(crate) fn texts() -> &'static [&'static str]
-    ensures { map (λ text. text.now) result.now ≡ texts_of Chapter.Frames }
+    ensures { map (λ text. text.now) result.now ≡ texts_of Frames }
 {
     &TEXTS
 }

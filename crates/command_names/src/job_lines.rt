@@ -1,13 +1,12 @@
 //! Lines of the job language, by their words.
 ghost use Rattle.std.specs.Prelude.{◌≡◌, map};
 ghost use Rattle.command_names.specs.CommandNames.{texts_of};
-
-use crate::chapters::Chapter;
+ghost use Rattle.command_names.specs.declared.chapters.Chapter.TheVariants.{JobLines};
 
 /// The texts of this chapter.
 #[tactic(auto, unfolding(crate::specs::CommandNames::texts_of))]
 pub(crate) fn texts() -> &'static [&'static str]
-    ensures { map (λ text. text.now) result.now ≡ texts_of Chapter.JobLines }
+    ensures { map (λ text. text.now) result.now ≡ texts_of JobLines }
 {
     &TEXTS
 }

@@ -25,7 +25,7 @@ use Rattle.streams.specs.declared.error.Error.{Error}
 use Rattle.streams.specs.declared.error.Error.TheVariants.{Read}
 use Rattle.job_reports.specs.declared.kind.Kind.TheVariants as kinds
 use Rattle.job_reports.specs.JobLines.{job_line}
-use Rattle.job_reports.specs.JobSentences.{job_sentence, named_first}
+use Rattle.job_reports.specs.JobSentences.{job_sentence, left_phrase, named_first, top_phrase}
 use Rattle.job_reports.specs.Kinds.{kind_of}
 use Rattle.job_reports.specs.Refusals.{refused_profile_sentence, unread_profile_sentence}
 use Rattle.job_reports.specs.Reports.{Reported}
@@ -99,7 +99,7 @@ placed = Ok (record {
 sentence_of_place : job_sentence (report_of false placed None)
     ≡ codes
     "in/note 4712.pcl: counter refuses this job at byte 9 on page 1, 31.75 mm from the left and 38.10 mm from the top: the printer does not have this size, orientation, tray or sides (11 NotOnDevice)\n"
-unfolding shown_text is_utf8 chars encode_utf8 digits millimetres signed_hundredths
+unfolding shown_text is_utf8 chars encode_utf8 digits left_phrase top_phrase millimetres signed_hundredths
 sentence_of_place = refl
 
 sentence_of_fault : job_sentence (report_of false faulty None)

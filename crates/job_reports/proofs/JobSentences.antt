@@ -47,10 +47,10 @@ use Rattle.streams.specs.declared.error.Error.{Error}
 use Rattle.streams.specs.declared.error.Error.TheVariants.{Memory, Read, Write, Turns, NoProfile, Items}
 use Rattle.job_reports.specs.CommandWords.{code_words, command_words}
 use Rattle.job_reports.specs.JobSentences.{AreNumbers, IsCulpritOfNumbers, IsOfParts, IsPageOfNumber, IsSentence, IsVerdictOfNumbers}
-use Rattle.job_reports.specs.JobSentences.{IsSpotOfNumbers, IsWithin, on_page, on_sheet, place_phrase}
+use Rattle.job_reports.specs.JobSentences.{IsSpotOfNumbers, IsWithin, left_phrase, on_page, on_sheet, place_phrase}
 use Rattle.job_reports.specs.JobSentences.{answer_phrase, at_command, cause_phrase, claim_by, error_phrase, fails_where, few_words}
 use Rattle.job_reports.specs.JobSentences.{first_of, for_each, for_printer, is_bad_value, job_claim, job_sentence, last_of, named_first}
-use Rattle.job_reports.specs.JobSentences.{lacked, reason_phrase, refusal, subject, verdict_phrase, what_fails}
+use Rattle.job_reports.specs.JobSentences.{lacked, reason_phrase, refusal, subject, top_phrase, verdict_phrase, what_fails}
 use Rattle.job_reports.specs.Kinds.{kind_by}
 use Rattle.job_reports.specs.LeftOut.{left_out_of, value_words}
 use Rattle.job_reports.specs.RefusedNames.{called, refused_name, value_key, value_name}
@@ -177,16 +177,21 @@ unfolding millimetres
 millimetres_part (pos n) h = signed_part (pos (n / 14_400_000)) (omega (arith, h))
 millimetres_part (negsuc n) h = signed_part (negsuc (n / 14_400_000)) (omega (arith, h))
 
+left_part : (x : ℤ) → unsigned_abs x ≤ 2 ^ 63 → IsWithin 36 (left_phrase x)
+unfolding left_phrase
+left_part x h =
+    joined (codes ", " ++ millimetres x) (codes " mm from the left")
+    (joined (codes ", ") (millimetres x) (literal 2 _ refl refl) (millimetres_part x h)) (literal 17 _ refl refl)
+
+top_part : (y : ℤ) → unsigned_abs y ≤ 2 ^ 63 → IsWithin 38 (top_phrase y)
+unfolding top_phrase
+top_part y h =
+    joined (codes " and " ++ millimetres y) (codes " mm from the top")
+    (joined (codes " and ") (millimetres y) (literal 5 _ refl refl) (millimetres_part y h)) (literal 16 _ refl refl)
+
 on_sheet_part : (cursor : Option SheetSpot) → IsSpotOfNumbers cursor → IsWithin 74 (on_sheet cursor)
 on_sheet_part None h = nothing 74
-on_sheet_part (Some spot) h =
-    let left : List ℕ = codes ", " ++ millimetres spot.x in
-    joined ((left ++ codes " mm from the left and ") ++ millimetres spot.y) (codes " mm from the top")
-    (joined (left ++ codes " mm from the left and ") (millimetres spot.y)
-    (joined left (codes " mm from the left and ")
-    (joined (codes ", ") (millimetres spot.x) (literal 2 _ refl refl) (millimetres_part spot.x h.0)) (literal 22 _ refl refl))
-    (millimetres_part spot.y h.1))
-    (literal 16 _ refl refl)
+on_sheet_part (Some spot) h = joined (left_phrase spot.x) (top_phrase spot.y) (left_part spot.x h.0) (top_part spot.y h.1)
 
 place_part : (place : ℕ) (page : Option ℕ) (cursor : Option SheetSpot) → place < 2 ^ 64 → IsPageOfNumber page → IsSpotOfNumbers cursor →
     IsWithin 132 (place_phrase place page cursor)

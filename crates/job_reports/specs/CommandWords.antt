@@ -1,5 +1,5 @@
 -- The item that a job fails at, in words.
-use Rattle.std.specs.Prelude.{ℕ, ◌==◌, unsigned_abs, List, [], ◌∷◌, ◌++◌, codes, decimal, flat_map, if◌then◌else◌}
+use Rattle.std.specs.Prelude.{ℕ, ℤ, ◌==◌, unsigned_abs, List, [], ◌∷◌, ◌++◌, codes, decimal, flat_map, if◌then◌else◌}
 use Rattle.shown_bytes.specs.Decimals.{amount, minus}
 use Rattle.shown_bytes.specs.Lettered.{lettered}
 use Rattle.pcl_items.specs.Spellings.Canon.{canon}
@@ -34,11 +34,14 @@ unfoldable pub setting_words : FontRequest → List ℕ
 setting_words font =
     amount font.spacing ++ codes "p" ++ amount font.pitch ++ codes "h" ++ amount font.height ++ codes "v"
 
+-- of its stroke weight, which may be less than 0
+unfoldable pub weight_words : ℤ → List ℕ
+weight_words weight = minus weight ++ amount (unsigned_abs weight) ++ codes "b"
+
 -- of how it looks
 unfoldable pub look_words : FontRequest → List ℕ
 look_words font =
-    amount font.style ++ codes "s" ++ minus font.weight ++ amount (unsigned_abs font.weight) ++ codes "b"
-    ++ amount font.typeface ++ codes "T"
+    amount font.style ++ codes "s" ++ weight_words font.weight ++ amount font.typeface ++ codes "T"
 
 abbrev pub font_commands : FontRequest → List ℕ
 font_commands font =

@@ -1,5 +1,5 @@
 -- The sentence of a job, in a check of many jobs.
-use Rattle.std.specs.Prelude.{◌≡◌, ℕ, ◌==◌, ◌-◌, ◌^◌, ◌<◌, ◌≤◌, nat_le, nat_lt, ◌||◌, List, [], ◌∷◌, ◌++◌, codes, drop}
+use Rattle.std.specs.Prelude.{◌≡◌, ℕ, ℤ, ◌==◌, ◌-◌, ◌^◌, ◌<◌, ◌≤◌, nat_le, nat_lt, ◌||◌, List, [], ◌∷◌, ◌++◌, codes, drop}
 use Rattle.std.specs.Prelude.{take, length, get_or, if◌then◌else◌, Bool, true, false, Option, None, Some, Result}
 use Rattle.std.specs.Prelude.{Ok, Err, IfOk, unsigned_abs, ⊤}
 use Rattle.std.specs.List.{AllByRecursion}
@@ -112,12 +112,17 @@ abbrev pub on_page : Option ℕ → List ℕ
 on_page None = []
 on_page (Some page) = named (codes " on page ") page
 
+-- how far a place is from the left and the upper edge of the sheet
+unfoldable pub left_phrase : ℤ → List ℕ
+left_phrase x = codes ", " ++ millimetres x ++ codes " mm from the left"
+
+unfoldable pub top_phrase : ℤ → List ℕ
+top_phrase y = codes " and " ++ millimetres y ++ codes " mm from the top"
+
 -- where the cursor stood on the sheet
 abbrev pub on_sheet : Option SheetSpot → List ℕ
 on_sheet None = []
-on_sheet (Some spot) =
-    codes ", " ++ millimetres spot.x ++ codes " mm from the left and " ++ millimetres spot.y
-    ++ codes " mm from the top"
+on_sheet (Some spot) = left_phrase spot.x ++ top_phrase spot.y
 
 -- the byte, the page that is open there, and where the cursor stood
 abbrev pub place_phrase : ℕ → Option ℕ → Option SheetSpot → List ℕ

@@ -9,6 +9,7 @@ ghost use Rattle.job_reports.specs.CommandWords.{
   font_commands,
   look_words,
   setting_words,
+  weight_words,
 };
 
 use device_profile::FontRequest;
@@ -121,6 +122,16 @@ fn push_setting<A: Allocator>(words: &mut Vec<u8, A>, font: &FontRequest) -> Res
     words.extend_from_slice(b"v")
 }
 
+/// Appends a stroke weight.
+#[tactic(auto, unfolding(crate::specs::CommandWords::weight_words))]
+fn push_weight<A: Allocator>(words: &mut Vec<u8, A>, weight: i32) -> Result<(), AllocError>
+    ensures { OnOk result (words.new.items ≡ words.old.items ++ weight_words weight) }
+{
+    push_minus(words, weight)?;
+    push_amount(words, u64::from(weight.unsigned_abs()))?;
+    words.extend_from_slice(b"b")
+}
+
 /// Appends how a font looks: its style, stroke weight and typeface.
 #[tactic(auto, unfolding(crate::specs::CommandWords::look_words))]
 fn push_look<A: Allocator>(words: &mut Vec<u8, A>, font: &FontRequest) -> Result<(), AllocError>
@@ -128,9 +139,7 @@ fn push_look<A: Allocator>(words: &mut Vec<u8, A>, font: &FontRequest) -> Result
 {
     push_amount(words, u64::from(font.style))?;
     words.extend_from_slice(b"s")?;
-    push_minus(words, font.weight)?;
-    push_amount(words, u64::from(font.weight.unsigned_abs()))?;
-    words.extend_from_slice(b"b")?;
+    push_weight(words, font.weight)?;
     push_amount(words, u64::from(font.typeface))?;
     words.extend_from_slice(b"T")
 }

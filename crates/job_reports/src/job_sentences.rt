@@ -1,6 +1,12 @@
 //! The sentence of a job, in a check of many.
 ghost use Rattle.std.specs.Prelude.{◌≡◌, ◌++◌, OnOk, option_map};
 ghost use Rattle.job_reports.specs.JobSentences.{
+  left_phrase,
+  top_phrase,
+};
+ghost use Rattle.job_reports.specs.JobSentences.{
+};
+ghost use Rattle.job_reports.specs.JobSentences.{
   IsOfParts,
   IsSentence,
   answer_phrase,
@@ -225,6 +231,26 @@ fn push_on_page<A: Allocator>(line: &mut Vec<u8, A>, page: Option<u64>) -> Resul
     }
 }
 
+/// Appends how far a place is from the left edge of the sheet, in ticks.
+#[tactic(auto, unfolding(crate::specs::JobSentences::left_phrase))]
+fn push_left<A: Allocator>(line: &mut Vec<u8, A>, x: i64) -> Result<(), AllocError>
+    ensures { OnOk result (line.new.items ≡ line.old.items ++ left_phrase x) }
+{
+    line.extend_from_slice(b", ")?;
+    push_millimetres(line, x)?;
+    line.extend_from_slice(b" mm from the left")
+}
+
+/// Appends how far a place is from the upper edge of the sheet, in ticks.
+#[tactic(auto, unfolding(crate::specs::JobSentences::top_phrase))]
+fn push_top<A: Allocator>(line: &mut Vec<u8, A>, y: i64) -> Result<(), AllocError>
+    ensures { OnOk result (line.new.items ≡ line.old.items ++ top_phrase y) }
+{
+    line.extend_from_slice(b" and ")?;
+    push_millimetres(line, y)?;
+    line.extend_from_slice(b" mm from the top")
+}
+
 /// Appends where the cursor stood on the sheet, if that is known.
 fn push_on_sheet<A: Allocator>(
     line: &mut Vec<u8, A>,
@@ -234,11 +260,8 @@ fn push_on_sheet<A: Allocator>(
 {
     match cursor {
         Some(spot) => {
-            line.extend_from_slice(b", ")?;
-            push_millimetres(line, spot.x)?;
-            line.extend_from_slice(b" mm from the left and ")?;
-            push_millimetres(line, spot.y)?;
-            line.extend_from_slice(b" mm from the top")
+            push_left(line, spot.x)?;
+            push_top(line, spot.y)
         }
         None => Ok(()),
     }
