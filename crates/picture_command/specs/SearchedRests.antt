@@ -17,7 +17,8 @@ use Rattle.renderings.specs.Outcomes.{fails_with}
 use Rattle.requests.specs.declared.selection.Selection.{Selection}
 use Rattle.requests.specs.Selection.{is_drawn}
 use Rattle.job_reports.specs.Groups.{Groups}
-use Rattle.job_reports.specs.JobSentences.{FailsAt, claim_by, fails_at, for_each, named_first, on_page, place_phrase}
+use Rattle.job_reports.specs.JobSentences.{FailsAt, claim_by, fails_at, for_each, named_first, on_page, on_sheet}
+use Rattle.job_reports.specs.JobSentences.{place_phrase}
 use Rattle.job_reports.specs.JobSentences.{reason_phrase, subject, verdict_phrase}
 use Rattle.job_reports.specs.Reports.{number_told}
 use Rattle.picture_command.specs.Carriers.{search_from}
@@ -78,14 +79,14 @@ module _ (job : List ℕ) (group : Groups) (counts : Counts) where
       append_cancel_left (refuses (number 1)) (phrase 0) (phrase 1)
       (ap (λ printer. refuses printer ++ phrase 0) (same_number group.is_each) ∙ claims) in
       let page : List ℕ = on_page (nowhere counts).page in
-      let places : place_phrase 0 (nowhere counts).page ++ (nowhere counts).words
-      ≡ place_phrase 1 (nowhere counts).page ++ (nowhere counts).words =
-      append_cancel_right (place_phrase 0 (nowhere counts).page ++ (nowhere counts).words)
-      (place_phrase 1 (nowhere counts).page ++ (nowhere counts).words)
+      let sheet : List ℕ = on_sheet (nowhere counts).cursor in
+      let here : ℕ → List ℕ = λ place. place_phrase place (nowhere counts).page (nowhere counts).cursor in
+      let places : here 0 ++ (nowhere counts).words ≡ here 1 ++ (nowhere counts).words =
+      append_cancel_right (here 0 ++ (nowhere counts).words) (here 1 ++ (nowhere counts).words)
       (reason_phrase (nowhere counts).left_out (early 0).reason) phrases in
       digits_differ (codes " at byte ") page
-      (append_cancel_right (named (codes " at byte ") 0 ++ page) (named (codes " at byte ") 1 ++ page)
-      (nowhere counts).words places)
+      (append_cancel_right (named (codes " at byte ") 0 ++ page) (named (codes " at byte ") 1 ++ page) sheet
+      (append_cancel_right (here 0) (here 1) (nowhere counts).words places))
 
   -- ---- what is told
 

@@ -1,4 +1,4 @@
-use Rattle.std.proofs.Common.{ap, ◌∙◌}
+use Rattle.std.proofs.Common.{Some, ap, ◌∙◌}
 use Rattle.device_profile.specs.Printer.{Printer}
 use Rattle.page_env.specs.declared.page.Page.{Page}
 use Rattle.page_env.specs.Settings.{state_at}
@@ -16,7 +16,8 @@ returns-in-Err g c =
 pub returns-in-Ok : goal.returns-in-Ok
 returns-in-Ok g c =
     let known = c.in-Ok.ensures any_panel in
-    spot_known c.profile.result.now (state_at any_panel c.page.result.now) c.in-Ok.place.x c.in-Ok.place.y
+    (λ i. Some (record { x = c.spot_at.ensures.x i; y = c.spot_at.ensures.y i }))
+    ∙ spot_known c.profile.result.now (state_at any_panel c.page.result.now) c.in-Ok.place.x c.in-Ok.place.y
     known.0 known.1 known.2
     ∙ ap (λ (p : Printer). spot_of p (state_at any_panel c.page.result.now)) c.profile.ensures
     ∙ ap (λ (q : Page). spot_of c.args.machine.now.printer (state_at any_panel q)) c.page.ensures
