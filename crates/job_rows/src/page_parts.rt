@@ -26,7 +26,8 @@ footer { order: 2; }
 form { order: 3; }
 main { order: 4; border-top: 1px solid var(--line); }
 h1 { margin: 0; font-size: 1.3em; }
-header ul { display: flex; flex-wrap: wrap; gap: 0 .5em; margin: 0; padding: 0; list-style: none; }
+header ul { display: flex; flex-wrap: wrap; align-items: baseline; gap: 0 .5em; margin: 0;
+  padding: 0; list-style: none; }
 header ul::before { content: 'Printers:'; color: var(--dim); }
 header li { font-family: monospace; }
 footer { margin: .7em 0; font-size: 1.15em; }
@@ -39,26 +40,36 @@ details.pass { counter-increment: pass; }
 details.fail { counter-increment: fail; }
 details.error { counter-increment: error; }
 details { border-bottom: 1px solid var(--line); }
-summary { padding: .35em 0; overflow-wrap: anywhere; cursor: pointer; }
+summary { padding: .35em 0 .35em 5.7em; text-indent: -5.7em; overflow-wrap: anywhere;
+  cursor: pointer; }
 details[open] > summary { background: var(--shade); }
-summary b { display: inline-block; min-width: 4.3em; }
+summary b { display: inline-block; min-width: 4.3em; text-indent: 0; }
 summary i { margin-left: .3em; padding: 0 .4em; border: 1px solid var(--line); border-radius: .6em;
   color: var(--dim); font-style: normal; font-size: .85em; white-space: nowrap; }
 .pass > summary b, footer .pass { color: var(--pass); }
 .fail > summary b, footer .fail { color: var(--fail); }
 .error > summary b, footer .error { color: var(--error); }
-details > :not(summary) { margin: .5em 0 .8em 1.1em; }
+details > :not(summary) { margin: .5rem 0 .8rem 1.1rem; }
 details > p { overflow-wrap: anywhere; }
 pre { overflow-x: auto; padding: .5em; background: var(--shade); font-size: .9em; }
 figcaption { color: var(--dim); }
-img { display: block; max-width: 100%; height: auto; max-height: 90vh; margin-top: .3em;
-  border: 1px solid var(--line); background: #fff; }
+img { display: block; box-sizing: border-box; max-width: 100%; height: auto; max-height: 90vh;
+  margin-top: .3em; border: 1px solid var(--line); background: #fff; }
+@media (max-width: 40em) {
+  summary { padding-left: 1.1em; text-indent: -1.1em; }
+  summary b { min-width: 0; }
+  details > :not(summary) { margin-left: 0; }
+  pre { white-space: pre-line; font-size: .72em; }
+}
 @media print {
   body { max-width: none; padding: 0; font-size: 9pt; }
   form, form:not([hidden]) { display: none; }
-  summary { list-style: none; break-inside: avoid; }
+  summary { padding-left: 4.6em; text-indent: -4.6em; list-style: none; break-inside: avoid; }
+  summary b { min-width: 4.3em; }
+  details[open] > summary { break-after: avoid; }
   pre { white-space: pre-wrap; }
   figure { break-inside: avoid; }
+  img { max-height: 55vh; }
 }
 </style>
 </head>
