@@ -2,7 +2,7 @@
 
 One `rt ci` for all gives each crate one processor while others are ready, and the largest crates
 stand on one another: so here the crate with the largest chain behind it gets several processors,
-and beside it others are proved, on one each.
+also where one with a shorter chain still has them, and beside it others are proved, on one each.
 """
 
 import os
@@ -55,7 +55,8 @@ class Proving:
     def begin(self, pool: ThreadPoolExecutor) -> None:
         """Begins what can be begun."""
         for name in self.ready()[:1 + BESIDE - len(self.running)]:
-            gets_several = self.first not in self.running.values()
+            gets_several = (self.first not in self.running.values()
+                            or self.behind[name] > self.behind[self.first])
             self.first = name if gets_several else self.first
             self.left.remove(name)
             self.running[pool.submit(self.prove, name, gets_several)] = name
