@@ -15,6 +15,8 @@ TRAIT = re.compile(r"(?m)^(?:pub )?trait (\w+)|^\}")
 HOLDS = " Prim.Unit {0} "
 # A line of a file of answers that begins no definition, but goes on with one.
 GOES_ON = re.compile(r"unfolding |[\])}]")
+# A line that imports goals, or branches of goals, by their names.
+NAMED_GOALS = re.compile(r"^(use \S+\.Goals\.)\{([^}\n]*)\}\n", re.MULTILINE)
 SIGNED = re.compile(r"(?:pub |abbrev )*(\S+) : (goal\.)?")
 
 
@@ -147,5 +149,16 @@ def without_answers(text: str, clause: Clause, is_cycle: bool) -> str:
             else:
                 kept.append(part)
         if len(kept) == len(parts):
-            return "".join(kept)
+            return with_used_goals("".join(kept))
         parts = kept
+
+
+def with_used_goals(text: str) -> str:
+    """The answers without names of goals, or of branches of goals, that none of them cites now."""
+    def used(line: re.Match[str]) -> str:
+        rest = text.replace(line[0], "")
+        names = [name for name in line[2].split(", ")
+                 if re.search(rf"(?<![\w+-]){re.escape(name)}(?![\w+-])", rest)]
+        return f"{line[1]}{{{', '.join(names)}}}\n" if names else ""
+
+    return NAMED_GOALS.sub(used, text)

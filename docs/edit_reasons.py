@@ -96,9 +96,9 @@ def is_proof_of(folder: str, goal: str, function: wrong_bodies.Changed) -> bool:
 
 
 def refused_goals(said: prover.Said, edit: wrong_bodies.Edit) -> list[str]:
-    """The goals of the edited functions that a check refuses, each once, or what it tells of these
-    functions without a goal."""
-    found = []
+    """The goals of the edited functions that a check refuses, each once; or those of functions in
+    one cycle with them; or what it tells of these functions without a goal."""
+    found, cycle = [], []
     for line in said.lines:
         if at := NOT_PROVED.match(line):
             is_own = any(it.file == at[1] and it.first <= int(at[2]) <= it.last
@@ -108,10 +108,12 @@ def refused_goals(said: prover.Said, edit: wrong_bodies.Edit) -> list[str]:
             goal = at[2] or ""
             is_own = any(is_proof_of(at[1], goal, it) for it in edit.functions)
             found += [f"`{goal}`" if goal else "an answer that names what is gone"] * is_own
+            is_beside = goal and at[1].rpartition("/")[2].startswith("+")
+            cycle += [f"`{goal}` of its cycle"] * bool(is_beside)
     names = {it.name for it in edit.functions}
     told = [at[2][:120].replace("|", "/") for at in map(UNPROVED.match, said.lines)
             if at and at[1].rpartition("::")[2] in names]
-    return list(dict.fromkeys(found or told))
+    return list(dict.fromkeys(found or (cycle if told else []) or told))
 
 
 def outcome(said: prover.Said, edit: wrong_bodies.Edit) -> str:
