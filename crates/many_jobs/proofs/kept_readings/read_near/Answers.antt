@@ -10,8 +10,8 @@ returns-in-Ok g c =
     text_had (near_rendering c.args.place) start after _ _
     _ c.into_bytes.result.items c.in-Ok.ensures c.new-text.ensures.bytes c.into_bytes.ensures
 
-pub returns-in-Err : goal.returns-in-Err
-returns-in-Err g c =
+pub returns : goal.returns
+returns g c =
     let start = g.S.Source.state c.args.job.now in
     let after = g.S.Source.state c.render_job.new.reader in
     subst (λ error. IsRightText (near_rendering c.args.place) start after (Err error)) (sym c.kept_error.ensures)
