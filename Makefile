@@ -22,7 +22,7 @@ define INSTALLED
 644 examples/* $(DOCUMENTS)/examples
 644 README.md CHANGELOG.md CONTRIBUTING.md $(DOCUMENTS)
 644 docs/*.md $(DOCUMENTS)/docs
-644 docs/pictures/*.svg $(DOCUMENTS)/docs/pictures
+644 docs/pictures/* $(DOCUMENTS)/docs/pictures
 644 bench/RESULTS.md $(DOCUMENTS)/bench
 644 contrib/README.md $(DOCUMENTS)/contrib
 644 contrib/cups/README.md contrib/cups/pclgate $(DOCUMENTS)/contrib/cups

@@ -18,8 +18,8 @@ from prover import Crate, Said
 HEAD = re.compile(r"(?m)^( *)(?:pub(?:\([^)]*\))? )?(?:const )?fn (\w+)")
 
 
-# The end of a function's head: its body follows, or it has none.
-OPENED = re.compile(r"(?m)[{;]$")
+# The end of a function's head: its body follows, which may be empty, or it has none.
+OPENED = re.compile(r"(?m)(?:[{;]|^\{\})$")
 
 
 class EditError(Exception):

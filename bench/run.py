@@ -34,7 +34,8 @@ depth and macro memory. The script stops where one does not.
   is.
 - Many jobs: 2,000 jobs of the same kind, each of whole pages and at least 4,096 bytes, are checked
   in one run for two printers, and beside it one job that is their bytes one behind another. More a
-  job: what the run over many takes longer, for each of its jobs.
+  job: what the run over many takes longer, for each of its jobs. The last row is of the same run
+  in a document, each job with the picture of its first page.
 """
 
 import argparse
@@ -46,7 +47,7 @@ import subprocess
 import sys
 import tempfile
 import time
-from dataclasses import dataclass
+from dataclasses import dataclass, replace
 from pathlib import Path
 
 sys.dont_write_bytecode = True
@@ -206,10 +207,12 @@ class ManyRun:
     names: Path
     jobs: int
     size: int
+    form: str = "line"
 
     def words(self):
         """The words behind the program's name."""
-        return ["check", *["-p", PRINTER] * PRINTERS_OF_MANY, "--files0-from", str(self.names)]
+        printers = ["-p", PRINTER] * PRINTERS_OF_MANY
+        return ["check", *printers, "--format", self.form, "--files0-from", str(self.names)]
 
     def stdout(self):
         """Where standard output goes."""
@@ -400,6 +403,7 @@ COLUMNS_OF_PICTURES = {
 
 COLUMNS_OF_MANY = {
     "Jobs": "<4",
+    "Form": "<4",
     "Printers": ">8",
     "Bytes": ">9",
     "Seconds": ">7",
@@ -485,11 +489,12 @@ def print_many(program, folder):
     print_head(COLUMNS_OF_MANY)
     many, one = write_many(folder)
     alone = program.best_seconds(one)
-    for run, seconds in ((one, alone), (many, program.best_seconds(many))):
+    for run in (one, many, replace(many, form="html")):
+        seconds = alone if run is one else program.best_seconds(run)
         more = "" if run is one else f"{1000 * (seconds - alone) / run.jobs:.3f} ms"
         memory = mebibytes(program.peak_memory(run))
         numbers = [run.size, f"{seconds:.2f}", more, memory]
-        print_row(COLUMNS_OF_MANY, [run.jobs, PRINTERS_OF_MANY, *numbers])
+        print_row(COLUMNS_OF_MANY, [run.jobs, run.form, PRINTERS_OF_MANY, *numbers])
 
 
 def print_pictures(program, folder):

@@ -5,11 +5,11 @@
 man/pclcheck.1 has each command, option of all, exit status of `check` and line of each help in the
 same words, and names no other option; what docs/make.py writes into it is not compared again. With
 `-h` each command tells in fifteen lines at most what it does and how it is used; `explain` tells of
-each number and each name what it tells of it among all; man/pclcheck-profile.5 has what
-manual_profile.py says; each file in completions/ offers each command and option, the fixed values
-of options, and no other; debian/changelog and CHANGELOG.md begin with the program's version. Needs
-bash. Prints a line for each that differs, and at last `N compared, M differ`. The exit status is 0
-where M is 0, else 1.
+each number and each name what it tells of it among all, and of each command behind its line of the
+list; man/pclcheck-profile.5 has what manual_profile.py says; each file in completions/ offers each
+command and option, the fixed values of options, and no other; debian/changelog and CHANGELOG.md
+begin with the program's version. Needs bash. Prints a line for each that differs, and at last `N
+compared, M differ`. The exit status is 0 where M is 0, else 1.
 """
 
 import re
@@ -87,6 +87,22 @@ def compare_explanations(comparison: Comparison, program: Program) -> None:
             comparison.same(f"explain {word}", program.output("explain", word), part)
 
 
+def compare_commands(comparison: Comparison, program: Program) -> None:
+    """What `explain` tells of a command by its key, its spelling and its name is the same, behind
+    its line of the list, which stands in the order of keys."""
+    lines = program.output("explain", "commands").splitlines()
+    keys = [line.split(" ", 1)[0] for line in lines]
+    comparison.same("the order of commands", keys, sorted(set(keys)))
+    for key, line in zip(keys, lines):
+        name, _, state = line.split(" ", 1)[1].rpartition(": ")
+        comparison.holds(f"{line!r} has no state", state in ("taken", "refused"))
+        text = re.search(rf"{re.escape(line)}\n(?:  .*\n)+", program.output("explain", key))
+        comparison.holds(f"explain {key} does not tell its line", text is not None)
+        for word in (name, name[name.index("(") + 1:-1]):
+            comparison.holds(f"explain {word} does not tell of {key}",
+                             text is not None and text[0] in program.output("explain", word))
+
+
 def compare_mentions(comparison: Comparison, text: str, commands: List[Command]) -> None:
     """Each long option that the page names somewhere is one of the program's."""
     known = {way for command in commands for way in command.short_and_long()}
@@ -151,6 +167,7 @@ def main(words: List[str]) -> int:
     compare_page(comparison, program, commands)
     compare_short_helps(comparison, program, commands)
     compare_explanations(comparison, program)
+    compare_commands(comparison, program)
     compare_profile_page(comparison, program, PROFILE_PAGE)
     compare_completions(comparison, program, commands)
     compare_papers(comparison, program)

@@ -3,10 +3,12 @@
     python3 crosscheck/many.py PROGRAM COUNT SEED
 
 Checks random jobs under random names for random fleets, by all forms of the words. Each run is made
-for lines, for sentences and for objects of JSON, with and without explanations and notes, and each
-line, sentence and object is compared with what `check JOB PROFILE..` alone says of that job, its
-page, the place of the cursor and the missing font or character with those of the second reading,
-its notes with what `notes JOB PROFILE` says, and the exit status with those. Prints each difference
+for lines, for sentences, for objects of JSON and for a document of HTML, with and without
+explanations and notes, and each line, sentence, object and row is compared with what
+`check JOB PROFILE..` alone says of that job, its page, the place of the cursor and the missing font
+or character with those of the second reading, its notes with what `notes JOB PROFILE` says, the
+items and the picture in its row with `list` and `picture`, and the exit status with those. Prints
+each difference
 and at last `N compared, M differ`, where N counts jobs and printers that are told of, at least
 COUNT. The exit status is 0 where M is 0, else 1.
 """
@@ -26,6 +28,7 @@ import jobs                                                        # noqa: E402
 from many_due import Told, told_of                                 # noqa: E402
 from many_forms import command_in, command_of, cut_lines           # noqa: E402
 from many_forms import line_differs, object_differs, sentence_differs       # noqa: E402
+from many_html import Document, Further, row_differs               # noqa: E402
 from many_names import cut, escaped, sentenced                     # noqa: E402
 from many_notes import notes_in                                    # noqa: E402
 from many_runs import Answer, Job, Printer, Try                    # noqa: E402
@@ -40,7 +43,8 @@ class Comparison:
     def __init__(self, run: Try):
         self.run = run
         self.wrong: List[str] = []
-        self.due = [self.told(job, group) for job in run.jobs for group in run.groups()]
+        self.asked = [(job, group) for job in run.jobs for group in run.groups()]
+        self.due = [self.told(job, group) for job, group in self.asked]
 
     def require(self, holds: bool, told: str) -> None:
         if not holds:
@@ -76,6 +80,32 @@ class Comparison:
         known = [found for found in commands if found is not None]
         for found in known[1:]:
             self.require(found == known[0], f"commands {found}, and {known[0]}")
+        self.compare_document(self.run.chance(0.3))
+
+    def compare_document(self, explains: bool) -> None:
+        """Compares a run in which all is told in one document."""
+        answer = self.run.answer(self.run.words_of("html", explains))
+        explanations = self.explanations() if explains else {}
+        found = Document(answer.output.decode())
+        names = [printer.name().decode() for printer in self.run.printers]
+        self.require(not found.wrong and found.printers == names,
+                     f"html: {found.wrong}, {found.printers}, due {names}")
+        self.require(len(found.rows) == len(self.due),
+                     f"html: {len(found.rows)} rows of {len(self.due)}")
+        for (job, group), told, row in zip(self.asked, self.due, found.rows):
+            further = self.further(job, group, told)
+            self.require(not row_differs(told, row, explanations, further),
+                         f"html: {row}, due {told}, {further}")
+        self.require((answer.status, answer.errors) == (self.status(), b""),
+                     f"html: status {answer.status}, {answer.errors!r}, due {self.status()}")
+
+    def further(self, job: Job, group: List[Printer], told: Told) -> Further:
+        """What further readings of a job give."""
+        if told.verdict == "ERROR" or job.data is None:
+            return Further()
+        printer = group[max(told.profile, 1) - 1]
+        page = told.place.page if told.verdict == "FAIL" else 1
+        return Further(self.run.listed(job.data), self.run.picture(job.data, printer, page))
 
     def compare_form(self, form: str, explains: bool) -> Optional[List[Optional[str]]]:
         """Compares a run in a form, and gives the items that jobs fail at, where these are told."""

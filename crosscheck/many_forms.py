@@ -4,7 +4,7 @@ import json
 import re
 from typing import Dict, List, Optional, Tuple
 
-from kinds import UNCHECKED, WRONG, kind_of
+from kinds import BAD_VALUE, UNCHECKED, WRONG, kind_of
 from many_due import Told
 from many_names import cut, escaped, sentenced, undone, unescaped
 from many_notes import note_text
@@ -20,6 +20,10 @@ REFUSED = re.compile(rb" at byte (\d+) on page \d+"
 CLAIMS = {UNCHECKED: b"pclcheck cannot judge this job", WRONG: b"this job is wrong"}
 # What is missing of a sentence or an object that is not as it should be.
 NO_COMMAND = "?"
+NOT_IN_PROFILE = 3
+# The control codes that HP's manual has, and some that it has not, by their keys.
+CONTROLS = {"x00": "NUL", "x04": "EOT", "x07": "BEL", "x08": "BS", "x09": "HT", "x0b": "VT",
+            "x0e": "SO", "x0f": "SI", "x1a": "SUB"}
 
 
 def line_differs(told: Told, line: bytes) -> bool:
@@ -62,15 +66,36 @@ def sentence_differs(told: Told, line: bytes) -> bool:
         return True
     between = line[len(front):len(line) - len(tail)]
     is_bare = told.verdict != "FAIL"
-    return len(line) > MOST or bool(between) == is_bare
+    return len(line) > MOST or bool(between) == is_bare or name_differs(told, *called(told, line))
 
 
 def command_of(told: Told, line: bytes) -> Optional[str]:
     """The item that a job fails at, by its sentence."""
+    return called(told, line)[0]
+
+
+def called(told: Told, line: bytes) -> Tuple[Optional[str], Optional[str]]:
+    """The item that a job fails at and the name of what is not checked, by its sentence."""
     found = REFUSED.search(line, len(cut(sentenced(told.job), MOST_OF_NAME)))
     if found is None:
-        return NO_COMMAND if told.verdict == "FAIL" else None
-    return found[2].decode() if found[2] is not None else None
+        return (NO_COMMAND if told.verdict == "FAIL" else None), None
+    if found[2] is None or told.code == NOT_IN_PROFILE:
+        return None, found[2] and found[2].decode()
+    item, _, name = found[2].decode().partition(", ")
+    return item, name or None
+
+
+def name_differs(told: Told, command: Optional[str], name: Optional[str]) -> bool:
+    """Whether a name is none of what is not checked, by the spelling at its end."""
+    if name is None:
+        return False
+    spelling = re.sub("#|ESC ", "", name[name.find("(") + 1:-1])
+    if told.code == BAD_VALUE:
+        return command != "ESC " + spelling
+    field = told.field.decode()
+    bare = re.sub(r"\d", "", spelling)
+    return told.code != NOT_IN_PROFILE or CONTROLS.get(field) != spelling \
+        and not bare.startswith(field)
 
 
 def members(line: bytes) -> Dict[str, object]:
@@ -105,6 +130,8 @@ def object_differs(told: Told, line: bytes, explanation: bytes) -> bool:
     except ValueError:
         return True
     command = found.pop("command", None)
+    if name_differs(told, command, found.pop("command_name", None)):
+        return True
     name = found.pop("job", None)
     return not isinstance(name, str) or undone(name) != told.job \
         or found != due_members(told, command, explanation)

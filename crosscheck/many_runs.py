@@ -229,6 +229,21 @@ class Try:
         self.input = given
         return answer.output
 
+    def listed(self, data: bytes) -> bytes:
+        """What `list` tells of a job."""
+        return self.told_alone(data, ["alone/job"], "list")
+
+    def picture(self, data: bytes, printer: Printer, page: int) -> bytes:
+        """What `picture` draws of a page of a job."""
+        return self.told_alone(data, ["alone/job", printer.path, "--page", str(page)], "picture")
+
+    def told_alone(self, data: bytes, words: List[str], command: str) -> bytes:
+        self.put(b"alone/job", data)
+        given, self.input = self.input, b""
+        answer = self.answer(words, command)
+        self.input = given
+        return answer.output
+
     def explanation(self, code: int) -> bytes:
         return self.answer([str(code)], "explain").output
 

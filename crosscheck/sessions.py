@@ -23,8 +23,8 @@ DOCUMENTS = (ROOT / "README.md", *sorted(ROOT.glob("examples/*.md")),
 SETTING = re.compile(r"cd examples$|alias pclcheck=")
 
 GONE = "No such file or directory"
-INPUT_AGAIN = ("error: standard input can be read only once; --each reads a job for each printer, "
-               "and --notes once more\n")
+INPUT_AGAIN = ("error: standard input can be read only once, as one job or as the list, without "
+               "--notes and --each\n")
 PIPE_AGAIN = ("error: /dev/null: a job that is no file can be read only once; "
               "--each reads it for each printer, and --notes once more\n")
 PIPE_TO_DRAW = ("error: /dev/null: a job that is no file can be read only once; "
@@ -78,18 +78,21 @@ STORED = (
      '{"job":"ruled_form.pcl","marks":36,"pages":2,"printer":"B","verdict":"PASS"}\n', ""),
     ("check --format words -p invoice.pcl ruled_form.pcl", 2, "",
      "invoice.pcl: line 1: this is neither 'pclprofile 1' nor 'pclprofile 2', so no profile; "
-     "jobs come behind -p or -f (ERROR profile 1 Version)\n"),
+     "jobs come behind -p or -f (ERROR profile 1 Version)\n"
+     "invoice.pcl: this is a job, where a profile has to stand; -p takes a profile\n"),
     ("check --format xml ruled_form.pcl @B", 2, "",
      "error: invalid value 'xml' for '--format <FORM>'\n"
-     "  [possible values: line, words, json]\n\nFor more information, try '--help'.\n"),
+     "  [possible values: line, words, json, html]\n\n  tip: a similar value exists: 'html'\n\n"
+     "For more information, try '--help'.\n"),
     ("list short.pcl", 0, "0 \\x1bE\n2 A\n3 \\x1b&l2A\n8 \\x0c\n", ""),
     ("list faulty.pcl", 1, "0 A\n1 FAULT 3 NotInProfile(Q)\n", ""),
     ("list gone.pcl", 3, "", "ERROR read\n"),
     ("pages empty.pcl @B", 0, "", ""),
     ("pages unset_size.pcl gone.profile", 3, "", "ERROR read\n"),
     ("plain short.pcl short.pcl", 2, "", "error: OUT is JOB itself, which would be lost\n"),
-    ("explain 999", 2, "", "error: no fault, finding or note has the number or the name '999'; "
-                           "'pclcheck explain' writes all\n"),
+    ("explain 999", 2, "", "error: no fault, finding, note or command has the number or the name "
+                           "'999'; 'pclcheck explain' writes all, 'pclcheck explain commands' "
+                           "lists the commands\n"),
     ("profile new hp-laserjet-iii --size a4", 2, "",
      "error: no model has the name 'hp-laserjet-iii'; 'pclcheck profile list' names all\n"),
     ("profile new generic --size a4,folio", 2, "",

@@ -12,9 +12,9 @@ function __pclcheck_command
             continue
         end
         switch "$found $word"
-            case ' check' ' list' ' pages' ' picture' ' notes' ' plain' ' pin' ' explain' ' profile' \
-                ' help' 'profile list' 'profile new' 'profile lint' 'profile show' 'profile sheet' \
-                'profile from-pjl' 'profile help' 'help profile'
+            case ' check' ' survey' ' list' ' pages' ' picture' ' notes' ' plain' ' pin' ' explain' \
+                ' profile' ' help' 'profile list' 'profile new' 'profile lint' 'profile show' \
+                'profile sheet' 'profile from-pjl' 'profile help' 'help profile'
                 set found (string trim -- "$found $word")
             case ' --format'
                 set is_value yes
@@ -77,7 +77,7 @@ function __pclcheck_findings
 end
 
 complete -c pclcheck -n '__pclcheck_at ""' -f
-complete -c pclcheck -n '__pclcheck_at ""' -l format -x -a 'line words json' \
+complete -c pclcheck -n '__pclcheck_at ""' -l format -x -a 'line words json html' \
     -d 'As --format of check, and for what stands in the way of each command'
 complete -c pclcheck -n '__pclcheck_at ""' -s V -l version -d 'Print version'
 complete -c pclcheck -n 'not string match -q "*help*" (__pclcheck_command)' -s h -l help \
@@ -87,6 +87,8 @@ for place in '' help
     complete -c pclcheck -n "__pclcheck_at '$place'" -f
     complete -c pclcheck -n "__pclcheck_at '$place'" -a check \
         -d 'Checks jobs for a fleet of printers, and writes a line for each: PASS or FAIL'
+    complete -c pclcheck -n "__pclcheck_at '$place'" -a survey \
+        -d 'Tells all that is refused of jobs, each kind of command once, and gives no verdict'
     complete -c pclcheck -n "__pclcheck_at '$place'" -a list \
         -d 'Lists the items of a job: each command, control code and byte of text'
     complete -c pclcheck -n "__pclcheck_at '$place'" -a pages \
@@ -138,14 +140,17 @@ complete -c pclcheck -n '__pclcheck_at check' -l each \
     -d 'A line for each printer, with its own verdict'
 complete -c pclcheck -n '__pclcheck_at check' -l notes \
     -d 'Tells below each PASS what the job leaves to the printer; reads it twice'
-complete -c pclcheck -n '__pclcheck_at check' -l format -x -a 'line words json' \
-    -d 'What is told of a job: a line, a sentence or an object of JSON'
+complete -c pclcheck -n '__pclcheck_at check' -l format -x -a 'line words json html' \
+    -d 'What is told of a job: a line, a sentence, an object of JSON, or a row of a page of HTML'
 complete -c pclcheck -n '__pclcheck_at check' -l explain \
     -d "Tells of each FAIL and note what 'pclcheck explain' tells of its number"
 complete -c pclcheck -n '__pclcheck_at check' -l exit-zero -d 'Ends with 0 where a job fails, too'
 complete -c pclcheck -n '__pclcheck_at check' -l unchecked -x -a 'fail pass' \
     -d 'How a job counts that pclcheck cannot judge'
 complete -c pclcheck -n __pclcheck_at_profile -a '(__pclcheck_samples)' -d sample
+
+complete -c pclcheck -n '__pclcheck_at survey' -l format -x -a 'line words json' \
+    -d 'Lines for people, or with json objects; line and words are the same'
 
 complete -c pclcheck -n '__pclcheck_at pages' -a '(__pclcheck_samples)' -d sample
 

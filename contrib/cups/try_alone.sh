@@ -130,7 +130,7 @@ export PCLCHECK_UNCHECKED
 say 'backend: or printed, where that is set' gate 0 /front/stand-in:x 1 "$alone/spaced.pcl"
 say 'backend: as it is' sends "$alone/spaced.pcl"
 say 'backend: which is told' tells \
-    'NOTICE: preflight: printed all the same: pclcheck cannot judge this job at byte 0 on page 1, 6.35 mm from the left and 15.87 mm from the top, ESC (s1P: '
+    'NOTICE: preflight: printed all the same: pclcheck cannot judge this job at byte 0 on page 1, 6.35 mm from the left and 15.87 mm from the top, ESC (s1P, '
 say 'backend: a job that is wrong is held then, too' gate 3 /front/stand-in:x 1 "$alone/wrong.pcl"
 say 'backend: and one that a printer refuses' gate 3 /all/stand-in:x 1 "$job"
 say 'backend: logged: it is printed' gate 0 /front/log/stand-in:x 1 "$alone/spaced.pcl"

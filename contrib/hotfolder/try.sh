@@ -62,7 +62,7 @@ printf '\033(s1P' >"$hot/spaced.pcl"
 cp "$hot/spaced.pcl" "$work/spaced.pcl"
 say 'hot folder: a job that pclcheck cannot judge ends a round with 1' once 1
 say 'hot folder: it is in refused' \
-    is_moved refused spaced.pcl 'pclcheck cannot judge this job at byte 0 on page 1, 6.35 mm from the left and 15.87 mm from the top, ESC (s1P: '
+    is_moved refused spaced.pcl 'pclcheck cannot judge this job at byte 0 on page 1, 6.35 mm from the left and 15.87 mm from the top, ESC (s1P, '
 cp "$work/spaced.pcl" "$hot/spaced.pcl"
 say 'hot folder: with --unchecked pass it does not' once 0 --unchecked pass
 say 'hot folder: and is in passed' is_moved passed spaced.pcl 'pclcheck cannot judge this job'

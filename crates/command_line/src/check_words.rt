@@ -26,6 +26,8 @@ pub const EXPLANATION: &str = "Examples:
       b.pcl: this job is wrong at byte 9 on page 2: the bytes here are no command (1 Syntax)
   pclcheck check -f shop.fleet --format json a.pcl
       {\"job\":\"a.pcl\",\"marks\":16,\"pages\":1,\"verdict\":\"PASS\"}
+  pclcheck check -f shop.fleet --format html --explain --notes in/*.pcl > report.html
+      a page to look at: the counts, a row for each job, and its picture where it fails
   pclcheck check -f shop.fleet --explain c.pcl
       FAIL at=5 printer=desk 24 DefinitionOpen c.pcl
       24 DefinitionOpen
@@ -80,7 +82,20 @@ With -p, -f, --allow-empty, --most-items, --each, --notes, --format, --explain, 
   profile, printer, code, finding, field, kind, command and explanation; of an ERROR error and
   cause. Below a PASS an object for each note with job, printer, at, code, note and explanation. In
   job each backslash is doubled; a JOB that is no UTF-8 text stands there as in a line. The page is
-  the one that is open at the byte, from 1.
+  the one that is open at the byte, from 1. Where pclcheck does not check a command, command_name is
+  what HP's manual calls it, as in the sentence.
+
+  Behind the page a sentence tells where the cursor stood before the item that fails, and an object
+  has it as x_mm and y_mm: millimetres from the left and the upper edge of the page as it is read,
+  rounded down, of a finding at an item of one step, and not where a panel decides it. Of 13 NoFont
+  an object has the font that is asked for, as asked, and the face that has most parts equal, as
+  nearest; the printer may take another. Of 14 NoGlyph it has the character.
+
+  --format html: one document that loads nothing from elsewhere, with a row for the line: the
+  verdict, the sentence of --format words, kind, page and byte. A row opens to the explanation and
+  the notes, where they are asked for; of a FAIL to the items near the byte, as list has them, and
+  to the page that is open there, on the printer named; of a PASS to the first page, on the first
+  printer. For these a job is read again. One that can be read only once has none of it.
 
   kind tells who says no:
   unchecked  pclcheck, which does not check this; printers may take it
@@ -97,10 +112,10 @@ On standard error, where there is no verdict:
 
   For many jobs: ERROR profile N PROFILE:LINE CAUSE, ERROR read profile PROFILE: WHY,
   ERROR read fleet FILE: WHY, ERROR fleet FILE: WHY and ERROR read names FILE: WHY. With --format
-  words a profile has a sentence, which ends with (ERROR profile N CAUSE) or (ERROR read).
+  words each is a sentence, which ends with (ERROR profile N CAUSE), (ERROR fleet) or (ERROR read).
 
   'pclcheck --format words list gone.pcl' tells of each command what stands in its way by a sentence.
-  The variable PCLCHECK_FORMAT is line, words or json: the form where no --format comes.
+  The variable PCLCHECK_FORMAT is line, words, json or html: the form where no --format comes.
 
 A profile is a text whose first line is 'pclprofile 1', or 'pclprofile 2' where it also lists what
 the panel may have for line termination (lineterm).

@@ -6,6 +6,7 @@ use crate::picture_words::PICTURE;
 use crate::profile_tool_words::{PROFILE_FROM_PJL, PROFILE_LINT, PROFILE_SHEET, PROFILE_SHOW};
 use crate::profile_words::{PROFILE_COMMANDS, PROFILE_LIST, PROFILE_NEW};
 use crate::rows::{CommandRow, Count, Need, WordRow};
+use crate::survey_words::SURVEY;
 use crate::text_commands::{LIST, NOTES, PAGES, PIN, PLAIN};
 use crate::word::Word;
 use clap::Command;
@@ -15,11 +16,15 @@ use std::convert::AsStr;
 const VERSION: &str = "0.1.0";
 
 const EXPLAIN_EXPLANATION: &str =
-    "CODE is a number, or a name in any letter case; what stands behind it in brackets may come, too.
+    "CODE is a number, or a name in any letter case; the number before it may come, too, and what stands
+behind it in brackets, as in '12 Unset(Size)'. For ERROR items it is items.
+
+It may also be a command of printers: as a FAIL names it ('&lP', x09, AA), as it is spelled
+('&l#P', HT) or as HP's manual calls it. The code commands lists them, taken or refused.
 
 Exit status:
   0  an explanation was written, or help was asked for
-  2  usage error, or no fault, finding or note has this code
+  2  usage error, or no fault, finding, note or command has this code
   3  a write failed, or memory ran out";
 
 /// The program itself.
@@ -41,7 +46,7 @@ const EXPLAIN: &CommandRow = &CommandRow {
         id: "CODE",
         need: Need::Never,
         count: Count::One,
-        help: "The fault, finding or note, by its number or its name; without it, all",
+        help: "The fault, finding, note or command; without it, all but commands",
     }],
     options: &[],
 };
@@ -51,6 +56,7 @@ const EXPLAIN: &CommandRow = &CommandRow {
 pub(crate) enum CommandName {
     Program,
     Check,
+    Survey,
     List,
     Pages,
     Picture,
@@ -70,6 +76,7 @@ pub(crate) enum CommandName {
 /// The commands that none stands below, in the order in which help lists them.
 const BELOW_PROGRAM: &[CommandName] = &[
     CommandName::Check,
+    CommandName::Survey,
     CommandName::List,
     CommandName::Pages,
     CommandName::Picture,
@@ -96,6 +103,7 @@ impl CommandName {
         match self {
             CommandName::Program => PROGRAM,
             CommandName::Check => CHECK,
+            CommandName::Survey => SURVEY,
             CommandName::List => LIST,
             CommandName::Pages => PAGES,
             CommandName::Picture => PICTURE,

@@ -5,7 +5,10 @@ use clap::ArgMatches;
 use requests::Form;
 
 /// The words of the forms.
-pub(crate) const FORMS: &[&str] = &["line", "words", "json"];
+pub(crate) const FORMS: &[&str] = &["line", "words", "json", "html"];
+
+/// The words of the forms of a survey, which knows no document.
+pub(crate) const SURVEY_FORMS: &[&str] = &["line", "words", "json"];
 
 /// The option of the program itself for the form of what each command tells.
 pub(crate) const FORMAT: OptionRow = OptionRow {
@@ -26,6 +29,7 @@ pub fn form_of(word: &str) -> Option<Form> {
         "line" => Some(Form::Line),
         "words" => Some(Form::Words),
         "json" => Some(Form::Json),
+        "html" => Some(Form::Html),
         _ => None,
     }
 }

@@ -79,7 +79,7 @@ pub(crate) const MANY_OPTIONS: &[OptionRow] = &[
             usual: None,
         },
         excludes: None,
-        help: "What is told of a job: a line, a sentence or an object of JSON",
+        help: "What is told of a job: a line, a sentence, an object of JSON, or a row of a page of HTML",
     },
     OptionRow {
         id: "EXPLAIN",

@@ -85,14 +85,19 @@ fn size_of(word: &str) -> Option<u32> {
     }
 }
 
-/// The orientation of a name, as `profile show` has it with a hyphen for the blank, or of a number.
+/// The orientation of a name in any letter case, as `profile show` has it with a hyphen for the
+/// blank, or of a number.
 fn orientation_of(word: &str) -> Option<u32> {
-    match word {
-        "portrait" => Some(0),
-        "landscape" => Some(1),
-        "reverse-portrait" => Some(2),
-        "reverse-landscape" => Some(3),
-        _ => digits_of(word),
+    if word.eq_ignore_ascii_case("portrait") {
+        Some(0)
+    } else if word.eq_ignore_ascii_case("landscape") {
+        Some(1)
+    } else if word.eq_ignore_ascii_case("reverse-portrait") {
+        Some(2)
+    } else if word.eq_ignore_ascii_case("reverse-landscape") {
+        Some(3)
+    } else {
+        digits_of(word)
     }
 }
 

@@ -15,14 +15,14 @@ const PICTURE_EXPLANATION: &str =
 verdict on top; it needs nothing from elsewhere, and prints a sheet a page. A page shows its sheet
 with rulers in millimetres and inches, the logical page (dashed), the printable area (thin), and
 each mark in its place; a unit is 1/7200 inch. The title of a mark, which a browser shows at the
-pointer, says what it is, the byte of its item, and its place in millimetres.
+pointer, says what it is, the byte of its item, and its upper left corner in millimetres.
 
-Where the job fails a page stands as far as it came, in gray, and upon it in red the character or
-the rectangle that fails, and the printable area, the logical page, the right margin or the picture
-frame that is left, with their measures; for other marks, and where there is none, a cross is where
-the cursor was before the item that failed. Below the sheet stands the sentence of
-'check --format words'. A job that fails by another panel setting or a second printer alone, as 12 and
-33 do, is drawn whole: check tells it.
+The page on which the job fails stands as far as it came, in gray, and upon it in red the character
+or the rectangle that fails, and the printable area, the logical page, the right margin or the
+picture frame that is left, with their measures; for other marks, and where there is none, a cross is
+where the cursor was before the item that failed. Below the sheet stands the sentence of
+'check --format words'. A page before it is drawn whole, and so is a job that fails by another panel
+setting or a second printer alone, as 12 and 33 do: check tells it.
 
 The panel is at the first value that the profile lists of each field, or at the value that --panel
 names, as in --panel size=26,vmi=6,lineterm=2; size and orientation take names, too, as a4 and

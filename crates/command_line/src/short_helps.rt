@@ -7,6 +7,7 @@ pub(crate) fn short_help(name: CommandName) -> &'static str {
     match name {
         CommandName::Program => PROGRAM,
         CommandName::Check => CHECK,
+        CommandName::Survey => SURVEY,
         CommandName::List => LIST,
         CommandName::Pages => PAGES,
         CommandName::Picture => PICTURE,
@@ -26,6 +27,7 @@ pub(crate) fn short_help(name: CommandName) -> &'static str {
 
 const PROGRAM: &str = "Usage: pclcheck <COMMAND>
   check    the verdict on jobs for printers
+  survey   all that is refused of jobs, without a verdict
   list     each command of a job
   pages    each mark of a job on a printer
   picture  a page of a job, drawn
@@ -45,6 +47,12 @@ const CHECK: &str = "Usage:
 
 What stands behind a FAIL is not judged.
 @A to @D are profiles to try with. 'pclcheck check --help' tells all.";
+
+const SURVEY: &str = "Usage:
+  pclcheck survey JOB..
+      a line for each kind of command that is refused, and how often
+
+'pclcheck survey --help' tells all.";
 
 const LIST: &str = "Usage:
   pclcheck list JOB
@@ -94,8 +102,10 @@ What stands behind a FAIL is not written.
 const EXPLAIN: &str = "Usage:
   pclcheck explain 12
       what the finding of this number, or of a name, means
+  pclcheck explain '&lP'
+      what is known of a command of printers; 'explain commands' lists them
   pclcheck explain
-      what all mean
+      what all findings and notes mean
 
 'pclcheck explain --help' tells all.";
 

@@ -10,6 +10,7 @@ use crate::panel_words::ChoiceFault;
 use crate::picture_words::picture_request;
 use crate::profile_words::profile_request;
 use crate::short_helps::short_help;
+use crate::survey_words::survey_request;
 use crate::text_commands::{pin_request, text_request};
 use crate::word::{Word, first_stand_in, first_without_text, is_stand_in, without_zeros};
 use clap::ArgMatches;
@@ -84,6 +85,7 @@ pub fn read_words<'a, O: Outlet, E: Outlet>(
 fn form_of_answer(usual: Form, request: &Request<'_>) -> Form {
     match request {
         Request::CheckMany(many) => many.form,
+        Request::Survey { form, .. } => *form,
         _ => usual,
     }
 }
@@ -119,7 +121,7 @@ fn refuse_word<E: Outlet>(alloc: Global, word: &str, stderr: &mut E) -> Status
         stderr.new ≡ stderr.old }
 {
     let Ok(text) = format!(in alloc;
-        "error: '{word}' is not UTF-8 text; behind -p or -f a job may be named so\n"
+        "error: '{word}' is not UTF-8 text, and no file can be named so; rename it, or send a job on standard input: 'check -p PROFILE - < JOB', 'list /dev/stdin < JOB'\n"
     ) else {
         return Status::Stopped(Error::Memory);
     };
@@ -198,6 +200,9 @@ fn request_of<'a>(
     if let Some(found) = matches.subcommand_matches("check") {
         return check_request(alloc, words, usual, found);
     }
+    if let Some(found) = matches.subcommand_matches("survey") {
+        return Ok(survey_request(alloc, usual, found)?);
+    }
     if let Some(found) = matches.subcommand_matches("pin") {
         return pin_request(alloc, found);
     }
@@ -217,7 +222,29 @@ fn request_of<'a>(
 /// The code that is to be explained, where there is one.
 fn code_asked<'a>(found: &ArgMatches<'a>) -> Option<&'a str> {
     let word = found.get_str("CODE")?;
-    Some(without_brackets(word))
+    Some(code_of(word))
+}
+
+/// The code of a word, which may be copied from a line of a check: of `ERROR items` it is a number.
+fn code_of(word: &str) -> &str {
+    if word == "items" {
+        return "36";
+    }
+    without_brackets(without_number(word))
+}
+
+/// The name of a finding without the number that a line of a check has before it; other words as
+/// they are.
+fn without_number(word: &str) -> &str {
+    match word.split_once(' ') {
+        Some((number, name)) if has_digits_alone(number) => name,
+        _ => word,
+    }
+}
+
+/// Whether a text has digits, and nothing else.
+fn has_digits_alone(text: &str) -> bool {
+    !text.is_empty() && text.as_bytes().iter().all(|byte| byte.is_ascii_digit())
 }
 
 /// The name of a finding without what a line of a check has behind it in brackets; other words as

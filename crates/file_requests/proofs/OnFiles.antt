@@ -1,6 +1,6 @@
 -- What commands leave on files that are new.
 use Rattle.std.proofs.Common.{◌≡◌, ◌∙◌, ◌⊎◌, ◌||◌, ◌++◌, ◌∷◌, ℕ, Bool, IsTrue, List, [], None, Option, Some, ap, append-nil, false, inl}
-use Rattle.std.proofs.Common.{inr, refl, subst, sym, true}
+use Rattle.std.proofs.Common.{inr, map, refl, subst, sym, true}
 use Rattle.std.specs.Prelude.{option_to_list}
 use Rattle.profile_commands.specs.ProfileFromPjl.{AsksBaseIfAny, LeavesAnswered}
 use Rattle.profile_commands.specs.ProfileLint.{LeavesLint}
@@ -10,10 +10,11 @@ use Rattle.picture_command.specs.Picture.{Around, HasNoEnd, IsNamedBy, LeavesPic
 use Rattle.renderings.specs.Due.{Rendering, plain_rendering}
 use Rattle.streams.specs.declared.error.Error.TheVariants.{Turns}
 use Rattle.streams.proofs.Uses.{one_behind, one_more, one_read, one_written, others_behind, texts_read}
+use Rattle.streams.specs.Ended.{JobRead}
 use Rattle.streams.specs.Files.{FileOutletState, no_outlet, no_source}
 use Rattle.streams.specs.Outlet.{OutletState}
 use Rattle.streams.specs.Source.{SourceState}
-use Rattle.streams.specs.Used.{FileUse, TextsAt, read_at, written_at}
+use Rattle.streams.specs.Used.{FileUse, TextsAt, read_at, read_of_job, written_at}
 use Rattle.named_inputs.specs.Choices.{TellsOfPin}
 use Rattle.named_inputs.proofs.InputUses.{file_read, input_read}
 use Rattle.named_inputs.specs.FileJobs.{is_input, reads_named}
@@ -21,15 +22,17 @@ use Rattle.named_inputs.specs.Fleet.{IsNamed, RefusesBy, RefusesOne, RefusesRead
 use Rattle.named_inputs.specs.Texts.{AsksInOrder, text_named}
 use Rattle.requests.specs.Status.{is_stop_of_read, is_stop_of_write}
 use Rattle.requests.specs.declared.choices.Choice.{Choice}
+use Rattle.requests.specs.declared.many_words.Form.{Form}
 use Rattle.requests.specs.declared.selection.Selection.{Selection}
 use Rattle.requests.specs.declared.status.Status.{Status}
 use Rattle.requests.specs.declared.status.Status.TheVariants.{Stopped}
 use Rattle.subcommands.specs.Check.{IsRightFor, Leaves, texts_by}
 use Rattle.subcommands.specs.JobNotes.{LeavesNotes}
 use Rattle.subcommands.specs.JobTexts.{EndsBy, LeavesOut, LeavesPages, LeavesPinned, LeavesText}
+use Rattle.survey.specs.Command.{LeavesSurvey}
 use Rattle.file_requests.specs.Outs.{EndsOut, PutsOut}
 use Rattle.file_requests.specs.JobRequests.{LeavesCheck, LeavesNotesFor, LeavesPagesFor, LeavesPictureOfFile, LeavesPin}
-use Rattle.file_requests.specs.JobRequests.{LeavesPlain, LeavesRendered}
+use Rattle.file_requests.specs.JobRequests.{LeavesPlain, LeavesRendered, LeavesSurveyOf}
 use Rattle.file_requests.specs.ProfileRequests.{LeavesAnsweredFor, LeavesLintFor, LeavesSheetFor, LeavesShownFor}
 
 -- ---- profiles
@@ -151,6 +154,17 @@ answered_by_file answer at base given texts failed status source source' out out
     unnamed asks told (file_read between used' answer at source' is place read)
 
 -- ---- jobs
+
+pub survey_left : (paths : List (List ℕ)) (form : Form) (jobs jobs' : List JobRead) (status : Status)
+    (used used' : List FileUse) (out out' err err' : OutletState) → jobs ≡ []
+    → used' ≡ used ++ map read_of_job jobs'
+    → LeavesSurvey form paths (λ path. no_source) status jobs jobs' out out' err err'
+    → LeavesSurveyOf paths form status used used' out out' err err'
+survey_left paths form jobs jobs' status used used' out out' err err' none told left = record {
+  jobs = jobs';
+  used_are = told;
+  left = subst (λ j. LeavesSurvey form paths (λ path. no_source) status j jobs' out out' err err') none left;
+}
 
 -- of files of which nothing was read
 pub check_left : (path at : List ℕ) (words : List (List ℕ)) (known known' : List (Option (List ℕ))) (given given' : List (List ℕ))

@@ -1,17 +1,20 @@
 -- What the commands on one job come to. Nothing is known of files beforehand, so this is said for what the history of
 -- files tells: which were read and which were written, at which path, and what that came to.
 -- It has those of a job, of OUT and of the texts of profiles.
-use Rattle.std.specs.Prelude.{◌≡◌, ◌⊎◌, ◌||◌, [], ◌∷◌, ◌++◌, ℕ, Bool, List, Option, IsTrue, codes}
+use Rattle.std.specs.Prelude.{◌≡◌, ◌⊎◌, ◌||◌, [], ◌∷◌, ◌++◌, ℕ, Bool, List, Option, IsTrue, codes, map}
 use Rattle.streams.specs.declared.error.Error.TheVariants.{Turns}
 use Rattle.renderings.specs.Due.{Rendering, plain_rendering}
+use Rattle.streams.specs.Ended.{JobRead}
 use Rattle.streams.specs.Files.{no_outlet, no_source}
 use Rattle.streams.specs.Outlet.{OutletState}
 use Rattle.streams.specs.Source.{SourceState}
-use Rattle.streams.specs.Used.{FileUse, TextsAt, read_at}
+use Rattle.streams.specs.Used.{FileUse, TextsAt, read_at, read_of_job}
+use Rattle.requests.specs.declared.many_words.Form.{Form}
 use Rattle.requests.specs.declared.selection.Selection.{Selection}
 use Rattle.named_inputs.specs.Fleet.{IsNamed, RefusesBy, RefusesOne, RefusesRead}
 use Rattle.subcommands.specs.Check.{IsRightFor, Leaves, texts_by}
 use Rattle.subcommands.specs.JobNotes.{LeavesNotes}
+use Rattle.survey.specs.Command.{LeavesSurvey}
 use Rattle.subcommands.specs.JobTexts.{EndsBy, LeavesOut, LeavesPages, LeavesPinned, LeavesText}
 use Rattle.named_inputs.specs.Choices.{TellsOfPin}
 use Rattle.picture_command.specs.Picture.{HasNoEnd, IsNamedBy, LeavesPicture}
@@ -45,6 +48,13 @@ pub record LeavesRendered (path : List ℕ) (rendering : Rendering) (status : St
   pub used_are : used' ≡ used ++ read_at path job ∷ []
   pub ends :
       EndsBy status (λ old new. LeavesText status rendering old new out out') no_source job job.failed out'.failed
+
+-- What is counted of the jobs at these paths is written: nothing is known of what their reads give beforehand.
+pub record LeavesSurveyOf (paths : List (List ℕ)) (form : Form) (status : Status) (used used' : List FileUse)
+    (out out' err err' : OutletState) : Type 0 where
+  pub jobs : List JobRead
+  pub used_are : used' ≡ used ++ map read_of_job jobs
+  pub left : LeavesSurvey form paths (λ path. no_source) status [] jobs out out' err err'
 
 -- the pages of the job at a path on the printer that this word names
 pub record LeavesPagesFor (path word : List ℕ) (status : Status) (used used' : List FileUse)

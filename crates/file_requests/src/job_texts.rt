@@ -4,17 +4,18 @@ ghost use Rattle.renderings.specs.Due.{list_rendering};
 ghost use Rattle.std.specs.Prelude.{◌≢◌, [], IsFalse, map};
 ghost use Rattle.file_requests.specs.JobRequests.{LeavesCheck, LeavesNotesFor, LeavesPagesFor};
 ghost use Rattle.file_requests.specs.JobRequests.{LeavesPictureFor, LeavesPin, LeavesPlain};
-ghost use Rattle.file_requests.specs.JobRequests.{LeavesRendered};
+ghost use Rattle.file_requests.specs.JobRequests.{LeavesRendered, LeavesSurveyOf};
 ghost use Rattle.named_inputs.specs.Texts.{text_named};
 
 use crate::outs::end_out;
 use job_reports::{is_pipe, refuse_pipe};
-use named_inputs::FileTexts;
+use named_inputs::{FileJobs, FileTexts};
 use picture_command::PictureAsked;
-use requests::{PanelSetting, Status};
-use std::io::Print;
+use requests::{Form, PanelSetting, Status};
+use std::io::{Input, Print};
 use std::rt::Files;
 use streams::{FilesUsed, Outlet, OutletAt, SourceAt};
+use survey::survey_jobs;
 
 /// Checks the job at a path for the printers that words name.
 pub fn check<R: Files + AllocGlobal, O: Outlet>(
@@ -58,6 +59,27 @@ pub fn list<R: Files + AllocGlobal, O: Outlet>(
     let mut source = SourceAt::new(rt, job);
     let status = subcommands::list::list(rt.alloc(), &mut source.file, stdout);
     used.read(source);
+    status
+}
+
+/// Surveys the jobs at paths.
+pub fn survey_files<'r, R: Files + Input + AllocGlobal, O: Outlet, E: Outlet>(
+    rt: &'r R,
+    jobs: &[&'r str],
+    form: Form,
+    used: &mut FilesUsed,
+    stdout: &mut O,
+    stderr: &mut E,
+) -> Status
+    requires stdout { IsFalse (O.state stdout.old).failed }
+    requires stderr { IsFalse (E.state stderr.old).failed }
+    ensures { LeavesSurveyOf (map (λ job. job.now) jobs.now) form result
+        used.old used.new (O.state stdout.old) (O.state stdout.new)
+        (E.state stderr.old) (E.state stderr.new) }
+{
+    let mut files = FileJobs::new(rt);
+    let status = survey_jobs(rt.alloc(), &mut files, jobs, form, stdout, stderr);
+    files.tell(used);
     status
 }
 

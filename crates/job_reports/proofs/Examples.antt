@@ -5,7 +5,9 @@ use Rattle.std.specs.Char.{encode_utf8}
 use Rattle.std.specs.Fmt.{digits}
 use Rattle.std.specs.Str.{is_utf8, chars}
 use Rattle.pcl_items.specs.declared.pcl.command.Command.TheVariants.{FontSpacing, PageSize}
-use Rattle.pcl_items.specs.declared.fault.LexCause.TheVariants.{Syntax}
+use Rattle.pcl_items.specs.declared.fault.LexCause.TheVariants.{NotInProfile, Syntax}
+use Rattle.pcl_items.specs.declared.fault.Name.TheVariants.{Command}
+use Rattle.pcl_items.specs.declared.pcl.command.Group.TheVariants.{Layout}
 use Rattle.pcl_items.specs.declared.item.SimpleItem.TheVariants.{Parameterized}
 use Rattle.pcl_items.specs.declared.number.Sign.{Sign}
 use Rattle.pcl_items.specs.declared.number.Sign.TheVariants.{Absent, Minus}
@@ -13,6 +15,7 @@ use Rattle.device_profile.specs.declared.fault.Cause.TheVariants.{Range, Repeate
 use Rattle.page_env.specs.declared.finding.Finding.TheVariants.{BadValue, NotOnDevice}
 use Rattle.verdict.specs.declared.reason.Reason.TheVariants.{Fault, Finding}
 use Rattle.verdict.specs.declared.verdict.Verdict.TheVariants.{Fail, Pass}
+use Rattle.command_names.specs.CommandNames.{table, texts_of}
 use Rattle.preflight.specs.declared.culprit.Culprit.{Culprit}
 use Rattle.preflight.specs.declared.culprit.Culprit.TheVariants.{Simple}
 use Rattle.preflight.specs.declared.culprit.Judgement.{Judgement}
@@ -119,13 +122,29 @@ failing_at culprit = Ok (record {
 
 sentence_of_unchecked : job_sentence (report_of true (failing_at (spaced Absent)) None)
     ≡ codes
-    "in/note 4712.pcl: pclcheck cannot judge this job for counter at byte 7 on page 1, ESC (s1P: pclcheck does not check proportional spacing (10 BadValue)\n"
-unfolding shown_text is_utf8 chars encode_utf8 digits
+    "in/note 4712.pcl: pclcheck cannot judge this job for counter at byte 7 on page 1, ESC (s1P, primary spacing 1, proportional ((s1P): pclcheck does not check proportional spacing (10 BadValue)\n"
+unfolding shown_text is_utf8 chars encode_utf8 digits table texts_of
 sentence_of_unchecked = refl
+
+-- what pclcheck does not check is called as HP's manual calls it
+abbrev unchecked : Result Judgement Error
+unchecked = Ok (record {
+  verdict = Fail 7 0 (Fault (NotInProfile (Command Layout 80)));
+  culprit = None;
+  page = Some 1;
+  cursor = None;
+  font = None;
+})
+
+sentence_of_refused : job_sentence (report_of false unchecked None)
+    ≡ codes
+    "in/note 4712.pcl: pclcheck cannot judge this job at byte 7 on page 1, page length (&l#P): pclcheck does not check this byte or command (3 NotInProfile(&lP))\n"
+unfolding shown_text is_utf8 chars encode_utf8 digits table texts_of
+sentence_of_refused = refl
 
 sentence_of_wrong : job_sentence (report_of false (failing_at (spaced Minus)) None)
     ≡ codes "in/note 4712.pcl: this job is wrong at byte 7 on page 1, ESC (s-1P: the command does not take this value (10 BadValue)\n"
-unfolding shown_text is_utf8 chars encode_utf8 digits
+unfolding shown_text is_utf8 chars encode_utf8 digits table texts_of
 sentence_of_wrong = refl
 
 -- at the end of a job it is an overlay that has such a value

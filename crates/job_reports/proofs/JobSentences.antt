@@ -1,5 +1,5 @@
 -- A sentence is short, and has no control code before its end.
-use Rattle.std.proofs.Common.{ℕ, ◌-◌, ◌^◌, ◌==◌, ◌<◌, ◌≤◌, List, [], ◌∷◌, ◌++◌, length, codes, refl, arith, get_or, Option, None, Some}
+use Rattle.std.proofs.Common.{ℕ, ◌+◌, ◌-◌, ◌^◌, ◌==◌, ◌<◌, ◌≤◌, List, [], ◌∷◌, ◌++◌, length, codes, refl, arith, get_or, Option, None, Some}
 use Rattle.std.proofs.Common.{ℤ, pos, negsuc, suc, ◌/◌, ◌%◌, unsigned_abs, Bool, Result, Ok, Err}
 use Rattle.std.specs.Prelude.{IfOk, decimal, flat_map}
 use Rattle.std.specs.Fmt.{signed_decimal}
@@ -50,9 +50,12 @@ use Rattle.job_reports.specs.JobSentences.{AreNumbers, IsCulpritOfNumbers, IsOfP
 use Rattle.job_reports.specs.JobSentences.{IsSpotOfNumbers, IsWithin, left_phrase, on_page, on_sheet, place_phrase}
 use Rattle.job_reports.specs.JobSentences.{answer_phrase, at_command, cause_phrase, claim_by, error_phrase, fails_where, few_words}
 use Rattle.job_reports.specs.JobSentences.{first_of, for_each, for_printer, is_bad_value, job_claim, job_sentence, last_of, named_first}
-use Rattle.job_reports.specs.JobSentences.{lacked, reason_phrase, refusal, subject, top_phrase, verdict_phrase}
+use Rattle.job_reports.specs.JobSentences.{lacked, reason_phrase, refusal, subject, top_phrase, verdict_phrase, what_fails}
 use Rattle.job_reports.specs.Kinds.{kind_by}
 use Rattle.job_reports.specs.LeftOut.{left_out_of, value_words}
+use Rattle.job_reports.specs.RefusedNames.{called, refused_name, value_key, value_name}
+use Rattle.command_names.specs.CommandNames.{command_name}
+use Rattle.command_names.proofs.TableLaws.{name_is_short}
 use Rattle.job_reports.specs.declared.kind.Kind.{Kind}
 use Rattle.job_reports.specs.declared.kind.Kind.TheVariants as kinds
 use Rattle.job_reports.specs.declared.left_out.LeftOut.{LeftOut}
@@ -134,6 +137,19 @@ command_part Line h = literal 144 _ refl refl
 at_part : (culprit : Option Culprit) → IsCulpritOfNumbers culprit → IsWithin 146 (at_command culprit)
 at_part None h = nothing 146
 at_part (Some culprit) h = joined (codes ", ") (command_words culprit) (literal 2 _ refl refl) (command_part culprit h)
+
+-- ---- the name of what is not checked
+
+by_key : (key : List ℕ) → IsWithin 60 (command_name key)
+by_key key = record { short = (name_is_short key).short; shown = (name_is_short key).shown }
+
+value_name_part : (value : Option (List ℕ)) → IsWithin 60 (value_name value)
+value_name_part None = nothing 60
+value_name_part (Some key) = by_key key
+
+called_part : (name : List ℕ) → IsWithin 60 name → IsWithin 62 (called name)
+called_part name h =
+    one_of 62 (length name == 0) [] (codes ", " ++ name) (λ e. nothing 62) (joined (codes ", ") name (literal 2 _ refl refl) h)
 
 on_page_part : (page : Option ℕ) → IsPageOfNumber page → IsWithin 29 (on_page page)
 on_page_part None h = nothing 29
@@ -245,78 +261,123 @@ brackets_part (Fault (NotInProfile name)) = in_brackets 9 (name_words name) (nam
 brackets_part (Found (Unset field)) = in_brackets 11 (field_name field) (field_part field) (omega arith)
 brackets_part _ = nothing 13
 
-finding_number : (finding : Finding) → number_of finding < 2 ^ 64
+finding_number : (finding : Finding) → number_of finding < 100
 finding_number BadValue = omega arith
 finding_number _ = omega arith
 
-cause_number_small : (cause : LexCause) → cause_number cause < 2 ^ 64
+cause_number_small : (cause : LexCause) → cause_number cause < 100
 cause_number_small Syntax = omega arith
 cause_number_small _ = omega arith
 
-number_small : (reason : Reason) → reason_number reason < 2 ^ 64
+number_small : (reason : Reason) → reason_number reason < 100
 number_small (Fault cause) = cause_number_small cause
 number_small (Found finding) = finding_number finding
 number_small Differs = omega arith
 number_small Unpinnable = omega arith
 
-reason_part : (reason : Reason) → IsWithin 54 (reason_words reason)
-reason_part reason =
-    joined (decimal (reason_number reason) ++ codes " ") _
-    (joined (decimal (reason_number reason)) (codes " ") (decimal_part _ (number_small reason)) (literal 1 _ refl refl))
-    (joined (bare_name reason) (brackets reason) (bare_part reason) (brackets_part reason))
+reason_part : {name field : ℕ} (reason : Reason) → IsWithin name (bare_name reason) → IsWithin field (brackets reason) →
+    IsWithin (3 + (name + field)) (reason_words reason)
+reason_part reason n k =
+    let number : List ℕ = decimal (reason_number reason) in
+    let small : reason_number reason < 100 = number_small reason in
+    joined (number ++ codes " ") _
+    (joined number (codes " ") (short_decimal_part 2 (reason_number reason) (omega arith) (omega (arith, small)) (omega (arith, small)))
+    (literal 1 _ refl refl))
+    (joined (bare_name reason) (brackets reason) n k)
 
-value_part : (left_out : Option LeftOut) → IsWithin 80 (value_words left_out)
-value_part None = literal 80 _ refl refl
-value_part (Some left_outs.Decimals) = literal 80 _ refl refl
-value_part (Some left_outs.Proportional) = literal 80 _ refl refl
-value_part (Some left_outs.Compression) = literal 80 _ refl refl
-value_part (Some left_outs.Resolution) = literal 80 _ refl refl
-value_part (Some left_outs.Scaling) = literal 80 _ refl refl
-value_part (Some left_outs.Pattern) = literal 80 _ refl refl
-value_part (Some left_outs.Permanent) = literal 80 _ refl refl
-value_part (Some left_outs.Pen) = literal 80 _ refl refl
-value_part (Some left_outs.ThinLine) = literal 80 _ refl refl
-value_part (Some left_outs.InMacro) = literal 80 _ refl refl
+value_part : (left_out : Option LeftOut) → IsWithin 62 (value_words left_out)
+value_part None = literal 62 _ refl refl
+value_part (Some left_outs.Decimals) = literal 62 _ refl refl
+value_part (Some left_outs.Proportional) = literal 62 _ refl refl
+value_part (Some left_outs.Compression) = literal 62 _ refl refl
+value_part (Some left_outs.Resolution) = literal 62 _ refl refl
+value_part (Some left_outs.Scaling) = literal 62 _ refl refl
+value_part (Some left_outs.Pattern) = literal 62 _ refl refl
+value_part (Some left_outs.Permanent) = literal 62 _ refl refl
+value_part (Some left_outs.Pen) = literal 62 _ refl refl
+value_part (Some left_outs.ThinLine) = literal 62 _ refl refl
+value_part (Some left_outs.InMacro) = literal 62 _ refl refl
 
 few_words_part : (left_out : Option LeftOut) (reason : Reason) → IsWithin 80 (few_words left_out reason)
 few_words_part left_out reason =
-    one_of 80 (is_bad_value reason) (value_words left_out) (short_reason reason) (λ e. value_part left_out) (short_part reason)
+    one_of 80 (is_bad_value reason) (value_words left_out) (short_reason reason)
+    (λ e. wider 80 _ (omega arith) (value_part left_out)) (short_part reason)
 
 lacked_part : (reason : Reason) → IsWithin 5 (lacked reason)
 lacked_part (Found (NoGlyph code)) = joined (codes " ") (escaped_byte code) (literal 1 _ refl refl) (escaped_part code)
 lacked_part _ = nothing 5
 
-reason_phrase_part : (left_out : Option LeftOut) (reason : Reason) → IsWithin 144 (reason_phrase left_out reason)
-reason_phrase_part left_out reason =
+-- of parts that are so long
+phrase_part : {few more name field : ℕ} (left_out : Option LeftOut) (reason : Reason) → IsWithin few (few_words left_out reason) →
+    IsWithin more (lacked reason) → IsWithin name (bare_name reason) → IsWithin field (brackets reason) →
+    IsWithin (few + more + name + field + 8) (reason_phrase left_out reason)
+phrase_part left_out reason f l n k =
     let words : List ℕ = codes ": " ++ few_words left_out reason in
     let front : List ℕ = words ++ lacked reason in
-    joined ((front ++ codes " (") ++ reason_words reason) (codes ")")
+    wider _ _ (omega arith)
+    (joined ((front ++ codes " (") ++ reason_words reason) (codes ")")
     (joined (front ++ codes " (") (reason_words reason)
     (joined front (codes " (")
-    (joined words (lacked reason)
-    (joined (codes ": ") (few_words left_out reason) (literal 2 _ refl refl) (few_words_part left_out reason)) (lacked_part reason))
+    (joined words (lacked reason) (joined (codes ": ") (few_words left_out reason) (literal 2 _ refl refl) f) l)
     (literal 2 _ refl refl))
-    (reason_part reason))
-    (literal 1 _ refl refl)
+    (reason_part reason n k))
+    (literal 1 _ refl refl))
+
+reason_phrase_part : (left_out : Option LeftOut) (reason : Reason) → IsWithin 126 (reason_phrase left_out reason)
+reason_phrase_part left_out reason =
+    phrase_part left_out reason (few_words_part left_out reason) (lacked_part reason) (bare_part reason) (brackets_part reason)
+
+unchecked_phrase_part : (left_out : Option LeftOut) (name : Name) → IsWithin 77 (reason_phrase left_out (Fault (NotInProfile name)))
+unchecked_phrase_part left_out name =
+    let reason : Reason = Fault (NotInProfile name) in
+    phrase_part left_out reason (literal 44 _ refl refl) (nothing 0) (literal 12 _ refl refl) (brackets_part reason)
+
+value_phrase_part : (left_out : Option LeftOut) → IsWithin 78 (reason_phrase left_out (Found BadValue))
+value_phrase_part left_out =
+    phrase_part left_out (Found BadValue) (value_part left_out) (nothing 0) (literal 8 _ refl refl) (nothing 0)
+
+-- ---- what fails, and why
+
+module _ (front : List ℕ) (culprit : Option Culprit) (f : IsWithin 132 front) (h : IsCulpritOfNumbers culprit) where
+  abbrev failure : Reason → List ℕ
+  failure reason =
+      front ++ what_fails (at_command culprit) (value_key culprit) reason ++ reason_phrase (left_out_of culprit) reason
+
+  -- behind a name that is so long a reason that is so long
+  named_failure : {m n : ℕ} (reason : Reason) → m + n ≤ 140 → IsWithin m (called (refused_name (value_key culprit) reason)) →
+      IsWithin n (reason_phrase (left_out_of culprit) reason) → IsWithin 418 (failure reason)
+  named_failure reason l k w =
+      let name : List ℕ = called (refused_name (value_key culprit) reason) in
+      let what : List ℕ = at_command culprit ++ name in
+      wider 418 _ (omega (arith, l))
+      (joined (front ++ what) (reason_phrase (left_out_of culprit) reason)
+      (joined front what f (joined (at_command culprit) name (at_part culprit h) k)) w)
+
+  -- a name stands before short reasons alone
+  failure_part : (reason : Reason) → IsWithin 418 (failure reason)
+  failure_part (Fault (NotInProfile name)) =
+      named_failure (Fault (NotInProfile name)) (omega arith) (called_part (command_name (name_words name)) (by_key (name_words name)))
+      (unchecked_phrase_part (left_out_of culprit) name)
+  failure_part (Found BadValue) =
+      named_failure (Found BadValue) (omega arith) (called_part (value_name (value_key culprit)) (value_name_part (value_key culprit)))
+      (value_phrase_part (left_out_of culprit))
+  failure_part reason = named_failure reason (omega arith) (nothing 0) (reason_phrase_part (left_out_of culprit) reason)
 
 -- ---- the answer
 
 verdict_part : (page : Option ℕ) (cursor : Option SheetSpot) (culprit : Option Culprit) (verdict : Verdict) → IsPageOfNumber page →
     IsSpotOfNumbers cursor → IsCulpritOfNumbers culprit → IsVerdictOfNumbers verdict →
-    IsWithin 422 (verdict_phrase (fails_where page cursor culprit) verdict)
+    IsWithin 418 (verdict_phrase (fails_where page cursor culprit) verdict)
 verdict_part page cursor culprit (Pass pages marks) p s h k =
     let front : List ℕ = named (codes " (pages=") pages in
     let back : List ℕ = named (codes " marks=") marks in
-    wider 422 _ (omega arith)
+    wider 418 _ (omega arith)
     (joined (front ++ back) (codes ")")
     (joined front back (named_part 8 (codes " (pages=") pages refl refl k.0)
     (named_part 7 (codes " marks=") marks refl refl k.1))
     (literal 1 _ refl refl))
 verdict_part page cursor culprit (Fail place profile reason) p s h k =
-    let front : List ℕ = place_phrase place page cursor in
-    joined (front ++ at_command culprit) (reason_phrase (left_out_of culprit) reason)
-    (joined front (at_command culprit) (place_part place page cursor k p s) (at_part culprit h))
-    (reason_phrase_part (left_out_of culprit) reason)
+    failure_part (place_phrase place page cursor) culprit (place_part place page cursor k p s) h reason
 
 subject_part : (names : List (List ℕ)) (number : ℕ) → AllByRecursion (IsWithin 32) names → IsWithin 32 (subject names number)
 subject_part names number h =
@@ -374,7 +435,7 @@ cause_part (Some words) =
 
 answer_part : (report : Reported) (answer : Result Verdict Error) → AllByRecursion (IsWithin 32) report.names →
     IsPageOfNumber (page_of report.answer) → IsSpotOfNumbers (cursor_of report.answer) →
-    IsCulpritOfNumbers (culprit_of report.answer) → IfOk answer IsVerdictOfNumbers → IsWithin 489 (answer_phrase report answer)
+    IsCulpritOfNumbers (culprit_of report.answer) → IfOk answer IsVerdictOfNumbers → IsWithin 485 (answer_phrase report answer)
 answer_part report (Ok verdict) h p s k l =
     joined (job_claim report)
     (verdict_phrase (fails_where (page_of report.answer) (cursor_of report.answer) (culprit_of report.answer)) verdict)
@@ -384,7 +445,7 @@ answer_part report (Ok verdict) h p s k l =
     (verdict_part (page_of report.answer) (cursor_of report.answer) (culprit_of report.answer) verdict p s k l)
 answer_part report (Err error) h p s k l =
     let front : List ℕ = error_phrase error ++ for_printer report.names (number_told report.is_each (Err error)) in
-    wider 489 _ (omega arith)
+    wider 485 _ (omega arith)
     (joined (((front ++ cause_phrase report.cause) ++ codes " (") ++ error_words error) (codes ")")
     (joined ((front ++ cause_phrase report.cause) ++ codes " (") (error_words error)
     (joined (front ++ cause_phrase report.cause) (codes " (")

@@ -21,6 +21,7 @@ use Rattle.verdict.specs.declared.verdict.Verdict.TheVariants.{Pass, Fail}
 use Rattle.job_reports.specs.CommandWords.{command_words}
 use Rattle.job_reports.specs.Kinds.{kind_by}
 use Rattle.job_reports.specs.LeftOut.{left_out_of, value_words}
+use Rattle.job_reports.specs.RefusedNames.{called, refused_name, value_key}
 use Rattle.job_reports.specs.declared.kind.Kind.{Kind}
 use Rattle.job_reports.specs.declared.kind.Kind.TheVariants as kinds
 use Rattle.job_reports.specs.declared.left_out.LeftOut.{LeftOut}
@@ -81,20 +82,31 @@ abbrev pub at_command : Option Culprit → List ℕ
 at_command None = []
 at_command (Some culprit) = codes ", " ++ command_words culprit
 
--- where a job fails: the page, where the cursor stood, the words behind that, and what is left out of the value there
+-- where a job fails: the page, where the cursor stood, the words behind that, the key of the command with its value,
+-- and what is left out of the value there
 pub record FailsAt : Type 0 where
   pub page : Option ℕ
   pub cursor : Option SheetSpot
   pub words : List ℕ
+  pub value : Option (List ℕ)
   pub left_out : Option LeftOut
 
 abbrev pub fails_at : Option ℕ → Option Culprit → FailsAt
-fails_at page culprit =
-    record { page = page; cursor = None; words = at_command culprit; left_out = left_out_of culprit }
+fails_at page culprit = record {
+  page = page;
+  cursor = None;
+  words = at_command culprit;
+  value = value_key culprit;
+  left_out = left_out_of culprit;
+}
 
 -- the same where it may be known where the cursor stood
 abbrev pub fails_where : Option ℕ → Option SheetSpot → Option Culprit → FailsAt
 fails_where page cursor culprit = record (fails_at page culprit) { cursor = cursor }
+
+-- the words on the item, and what HP's manual calls what is not checked
+abbrev pub what_fails : List ℕ → Option (List ℕ) → Reason → List ℕ
+what_fails words value reason = words ++ called (refused_name value reason)
 
 abbrev pub on_page : Option ℕ → List ℕ
 on_page None = []
@@ -138,7 +150,7 @@ reason_phrase left_out reason =
 abbrev pub verdict_phrase : FailsAt → Verdict → List ℕ
 verdict_phrase at (Pass pages marks) = named (codes " (pages=") pages ++ named (codes " marks=") marks ++ codes ")"
 verdict_phrase at (Fail place profile reason) =
-    place_phrase place at.page at.cursor ++ at.words ++ reason_phrase at.left_out reason
+    place_phrase place at.page at.cursor ++ what_fails at.words at.value reason ++ reason_phrase at.left_out reason
 
 -- ---- why there is none
 

@@ -6,6 +6,7 @@ pub mod Kinds
 pub mod LeftOut
 pub mod Lines
 pub mod Pipes
+pub mod RefusedNames
 pub mod Refusals
 pub mod Reports
 pub mod Right

@@ -33,12 +33,15 @@ ghost use Rattle.job_reports.specs.JobSentences.{
   refusal,
   subject,
   verdict_phrase,
+  what_fails,
 };
+ghost use Rattle.job_reports.specs.RefusedNames.{value_key};
 ghost use Rattle.job_reports.specs.Reports.{Reported, number_told, verdict_told};
 
 use crate::command_words::push_command_words;
 use crate::kind::{Kind, kind_of};
 use crate::left_out::{LeftOut, left_out_of, value_words};
+use crate::refused_names::push_called;
 use crate::reports::Report;
 use line_words::{push_escaped, push_named, push_reason, short_reason};
 use page_env::Finding;
@@ -202,7 +205,7 @@ fn push_verdict<A: Allocator + Copy>(
         }
         Verdict::Fail { place, finding, .. } => {
             push_place(line, place, at)?;
-            push_at_command(alloc, line, at.culprit)?;
+            push_what_fails(alloc, line, at.culprit, finding)?;
             push_reason_phrase(line, left_out_of(at.culprit), finding)
         }
     }
@@ -262,6 +265,20 @@ fn push_on_sheet<A: Allocator>(
         }
         None => Ok(()),
     }
+}
+
+/// Appends the item that a job fails at, and what HP's manual calls what is not checked.
+fn push_what_fails<A: Allocator + Copy>(
+    alloc: A,
+    line: &mut Vec<u8, A>,
+    culprit: Option<Culprit>,
+    reason: Reason,
+) -> Result<(), AllocError>
+    ensures { OnOk result (line.new.items ≡ line.old.items ++
+        what_fails (at_command culprit) (value_key culprit) reason) }
+{
+    push_at_command(alloc, line, culprit)?;
+    push_called(alloc, line, culprit, reason)
 }
 
 /// Appends the item that a job fails at, where there is one.

@@ -10,6 +10,7 @@ mod left_out;
 mod lines;
 mod pipes;
 mod refusals;
+mod refused_names;
 mod reports;
 
 pub use command_words::{push_command_words, push_font_commands};
@@ -25,4 +26,5 @@ pub use refusals::{
     push_refused_profile, push_refused_profile_sentence, push_unread, push_unread_profile,
     push_unread_profile_sentence, tell_unread,
 };
+pub use refused_names::push_refused_name;
 pub use reports::Report;

@@ -10,4 +10,6 @@ mod words;
 pub use figures::{push_escaped, push_named, push_number_word, push_value_word};
 pub use item_lines::{push_fault, push_item};
 pub use mark_lines::{push_mark, push_page};
-pub use words::{bare_name, push_field_words, push_reason, push_reason_name, short_reason};
+pub use words::{
+    bare_name, push_field_words, push_name, push_reason, push_reason_name, short_reason,
+};

@@ -26,8 +26,11 @@ use Rattle.job_reports.specs.Groups.{Groups, group_at, group_count, of_group, re
 use Rattle.many_jobs.specs.JobChecks.{AddsTold, AreOfDue, AreRightToCut, CutsNotes, CutsTold, IsErrorOfJob, IsErrorOfLine}
 use Rattle.many_jobs.specs.JobChecks.{IsRightAnswer, IsRightLine}
 use Rattle.many_jobs.specs.JobChecks.{CheckLine, TellsLines, TellsAll, TellsFront, TellsNotes, Work, afters, afters_of, due_of, ending_of}
-use Rattle.many_jobs.specs.JobChecks.{ending_of_line, job_due, keyed, line_text, worse, worst}
-use Rattle.many_jobs.specs.JobNoting.{IsRightlyNoted, Noted, ending_of_notes, note_printer, notes_text}
+use Rattle.many_jobs.specs.JobChecks.{AddsRow, CutsRow, TellsRow, ending_of_line, in_document, job_due, keyed, line_text, work}
+use Rattle.many_jobs.specs.JobChecks.{worse, worst}
+use Rattle.many_jobs.specs.JobNoting.{IsRightlyNoted, Noted, ending_of_noted, ending_of_notes, note_printer, noted_after, noted_text}
+use Rattle.many_jobs.specs.JobNoting.{notes_text}
+use Rattle.many_jobs.specs.JobRow.{IsReread, Reread, RowRead, near_of_job, page_of_job, reread_after, row_afters, row_told}
 use Rattle.notes.specs.Note.{Told as ToldNote}
 use Rattle.many_jobs.specs.NoteReports.{subject_of, told_note}
 use Rattle.device_profile.specs.Name.{printer_name}
@@ -41,7 +44,7 @@ use Rattle.named_inputs.specs.Texts.{IsErrorOfReading}
 use Rattle.requests.specs.declared.status.Status.{Status}
 use Rattle.requests.specs.declared.status.Status.TheVariants.{Stopped}
 use Rattle.job_reports.specs.Reports.{verdict_told}
-use Rattle.many_jobs.specs.Telling.{HowTold, report_text}
+use Rattle.many_jobs.specs.Telling.{HowTold, is_html, report_text}
 
 -- ---- the worst of endings
 
@@ -91,6 +94,24 @@ of_due_among before due later (read ∷ reads) all = (
       (Contains-append_left (map job_due due) (map job_due later) read.name all.0)),
   of_due_among before due later reads all.1,
 )
+
+-- the further readings of a job of which a line is due
+module _ (job : List ℕ) (number : ℕ) where
+  noted_of_due : (noted : Option Noted) → AreOfDue ((job, number) ∷ []) (noted_after job noted)
+  noted_of_due None = tt
+  noted_of_due (Some noted) = ((0, omega arith, refl), tt)
+
+  reread_of_due : (read : Option Reread) → AreOfDue ((job, number) ∷ []) (reread_after job read)
+  reread_of_due None = tt
+  reread_of_due (Some read) = ((0, omega arith, refl), tt)
+
+  row_of_due : (noted : Option Noted) (near page : Option Reread) → AreOfDue ((job, number) ∷ []) (row_afters job noted near page)
+  row_of_due noted near page =
+      All-append (λ (read : JobRead). Contains (map job_due ((job, number) ∷ [])) read.name)
+      (noted_after job noted ++ reread_after job near) (reread_after job page)
+      (All-append (λ (read : JobRead). Contains (map job_due ((job, number) ∷ [])) read.name) (noted_after job noted)
+      (reread_after job near) (noted_of_due noted) (reread_of_due near))
+      (reread_of_due page)
 
 abbrev key : CheckLine → List ℕ × ℕ
 key line = (line.job, line.group)
@@ -162,12 +183,38 @@ module _ (groups : Groups) (telling : HowTold) (start : List ℕ → SourceState
   -- ---- one line
 
   module _ (job : List ℕ) (number : ℕ) (after : SourceState) (answer : Result Judgement Error)
-      (right : IsRightAnswer (group_at groups number).fleet (start job) after answer) where
+      (right : IsRightAnswer (group_at groups number).fleet (start job) after answer) (plain : is_html telling.format ≡ false) where
     abbrev group : Groups
     group = group_at groups number
 
+    -- nothing more is read of the job
+    near_none : IsReread (in_document telling (near_of_job telling job answer)) (start job) None
+    near_none =
+        subst (λ (is : Bool). IsReread (if is then near_of_job telling job answer else None) (start job) None) (sym plain) tt
+
+    page_none : IsReread (in_document telling (page_of_job telling group job answer)) (start job) None
+    page_none =
+        subst (λ (is : Bool). IsReread (if is then page_of_job telling group job answer else None) (start job) None) (sym plain) tt
+
     abbrev line_with : Option (List ℕ) → Option Noted → CheckLine
-    line_with cause noted = record { job = job; group = number; after = after; answer = answer; cause = cause; noted = noted }
+    line_with cause noted = record {
+      job = job;
+      group = number;
+      after = after;
+      answer = answer;
+      cause = cause;
+      noted = noted;
+      near = None;
+      page = None;
+    }
+
+    -- its text is that of a line, and not of a row
+    plain_text : (cause : Option (List ℕ)) (noted : Option Noted) →
+        line_text groups telling (line_with cause noted)
+        ≡ report_text telling (reported group job answer cause) ++ noted_text telling group job noted
+    plain_text cause noted =
+        ap (λ (is : Bool). if is then row_told telling group job answer cause noted None None
+        else (report_text telling (reported group job answer cause) ++ noted_text telling group job noted)) plain
 
     abbrev told : Option (List ℕ) → List ℕ
     told cause = report_text telling (reported group job answer cause)
@@ -187,8 +234,13 @@ module _ (groups : Groups) (telling : HowTold) (start : List ℕ → SourceState
             line_with adds.0 None ∷ [],
             record {
               in_order = refl;
-              right = ((right, subst (λ printer. IsRightlyNoted write_note (start job) printer None) (sym none) tt), tt);
-              written = subst (Adds old.out new.out) (sym (append-nil (text ++ []) ∙ append-nil text)) adds.1;
+              right = (
+                (right, subst (λ printer. IsRightlyNoted write_note (start job) printer None) (sym none) tt, near_none, page_none),
+                tt,
+              );
+              written =
+                  subst (Adds old.out new.out)
+                  (sym (ap (λ t. t ++ []) (plain_text adds.0 None) ∙ append-nil (text ++ []) ∙ append-nil text)) adds.1;
               ended = ended;
             },
             is ∙ sym (worse-passes (ending_of telling answer)),
@@ -215,7 +267,9 @@ module _ (groups : Groups) (telling : HowTold) (start : List ℕ → SourceState
             of_due = tt;
             in_order = refl;
             right = (inr (right, refl, refl), tt);
-            written = subst (AddsFront old.out new.out) (sym (append-nil (text ++ []) ∙ append-nil text)) cut.1;
+            written =
+                subst (AddsFront old.out new.out)
+                (sym (ap (λ t. t ++ []) (plain_text cut.0 None) ∙ append-nil (text ++ []) ∙ append-nil text)) cut.1;
             ended = ended;
           }
       cuts_line Read cut = absurd cut
@@ -236,9 +290,18 @@ module _ (groups : Groups) (telling : HowTold) (start : List ℕ → SourceState
             line_with adds.0 (Some noted) ∷ [],
             record {
               in_order = refl;
-              right = ((right, subst (λ printer. IsRightlyNoted write_note (start job) printer (Some noted)) (sym has) tells.right), tt);
+              right = (
+                (
+                  right,
+                  subst (λ printer. IsRightlyNoted write_note (start job) printer (Some noted)) (sym has) tells.right,
+                  near_none,
+                  page_none,
+                ),
+                tt,
+              );
               written =
-                  subst (Adds old.out new.out) (sym (append-nil (text ++ notes)))
+                  subst (Adds old.out new.out)
+                  (sym (ap (λ t. t ++ []) (plain_text adds.0 (Some noted)) ∙ append-nil (text ++ notes)))
                   (Adds-trans old.out mid.out new.out text notes adds.1 tells.written);
               ended = tells.ended ∙ ap (λ es. es ++ job_read job noted.after ∷ []) ended
                   ∙ append_assoc old.ended (job_read job after ∷ []) (job_read job noted.after ∷ []);
@@ -261,7 +324,7 @@ module _ (groups : Groups) (telling : HowTold) (start : List ℕ → SourceState
             written = (
               text ++ [],
               [],
-              refl,
+              ap (λ t. t ++ []) (plain_text adds.0 None),
               subst (λ o. Adds old.out o (text ++ [])) (sym cut.1) (subst (Adds old.out mid.out) (sym (append-nil text)) adds.1),
             );
             ended = cut.2 ∙ ap (λ es. es ++ job_read job cut.0 ∷ []) ended
@@ -279,11 +342,20 @@ module _ (groups : Groups) (telling : HowTold) (start : List ℕ → SourceState
             untold = [];
             of_due = tt;
             in_order = refl;
-            right = (inl (right, subst (λ printer. IsRightlyNoted write_note (start job) printer (Some noted)) (sym has) tells.right), tt);
+            right = (
+              inl (
+                right,
+                subst (λ printer. IsRightlyNoted write_note (start job) printer (Some noted)) (sym has) tells.right,
+                near_none,
+                page_none,
+              ),
+              tt,
+            );
             written = (
               text ++ front.0,
               front.1,
-              append-nil (text ++ notes) ∙ ap (λ t. text ++ t) front.2 ∙ sym (append_assoc text front.0 front.1),
+              ap (λ t. t ++ []) (plain_text adds.0 (Some noted)) ∙ append-nil (text ++ notes) ∙ ap (λ t. text ++ t) front.2
+                  ∙ sym (append_assoc text front.0 front.1),
               Adds-trans old.out mid.out new.out text front.0 adds.1 front.3,
             );
             ended = tells.ended ∙ ap (λ es. es ++ job_read job noted.after ∷ []) ended
@@ -293,6 +365,118 @@ module _ (groups : Groups) (telling : HowTold) (start : List ℕ → SourceState
       cuts_notes Turns cut = absurd cut
       cuts_notes NoProfile cut = absurd cut
       cuts_notes Items cut = absurd cut
+
+  -- ---- one row
+
+  module _ (job : List ℕ) (number : ℕ) (after : SourceState) (answer : Result Judgement Error)
+      (right : IsRightAnswer (group_at groups number).fleet (start job) after answer) (html : is_html telling.format ≡ true)
+      (old new : Work) (ended : List JobRead) (is_ended : ended ≡ old.ended ++ job_read job after ∷ []) where
+    abbrev row_group : Groups
+    row_group = group_at groups number
+
+    abbrev row_line : Option (List ℕ) → RowRead → CheckLine
+    row_line cause row = record {
+      job = job;
+      group = number;
+      after = after;
+      answer = answer;
+      cause = cause;
+      noted = row.noted;
+      near = row.near;
+      page = row.page;
+    }
+
+    abbrev text_of_row : Option (List ℕ) → RowRead → List ℕ
+    text_of_row cause row = row_told telling row_group job answer cause row.noted row.near row.page
+
+    row_text_is : (cause : Option (List ℕ)) (row : RowRead) →
+        line_text groups telling (row_line cause row) ≡ text_of_row cause row
+    row_text_is cause row =
+        ap (λ (is : Bool). if is then text_of_row cause row
+        else (report_text telling (reported row_group job answer cause) ++ noted_text telling row_group job row.noted)) html
+
+    near_is : (read : Option Reread) → IsReread (near_of_job telling job answer) (start job) read →
+        IsReread (in_document telling (near_of_job telling job answer)) (start job) read
+    near_is read is =
+        subst (λ (h : Bool). IsReread (if h then near_of_job telling job answer else None) (start job) read) (sym html) is
+
+    page_is : (read : Option Reread) → IsReread (page_of_job telling row_group job answer) (start job) read →
+        IsReread (in_document telling (page_of_job telling row_group job answer)) (start job) read
+    page_is read is =
+        subst (λ (h : Bool). IsReread (if h then page_of_job telling row_group job answer else None) (start job) read) (sym html) is
+
+    -- further readings stand behind the first one
+    ended_behind : (reads : List JobRead) → new.ended ≡ ended ++ reads → new.ended ≡ old.ended ++ (job_read job after ∷ reads)
+    ended_behind reads is = is ∙ ap (λ es. es ++ reads) is_ended ∙ append_assoc old.ended (job_read job after ∷ []) reads
+
+    abbrev afters_of_row : RowRead → List JobRead
+    afters_of_row row = row_afters job row.noted row.near row.page
+
+    tells_row : (row : RowRead) (ending : Ending) → ending ≡ worse (ending_of telling answer) (ending_of_noted row.noted) →
+        TellsRow row_group telling (start job) job answer (work old.out ended) new (Adds old.out new.out) row →
+        TellsAll groups telling ((job, number) ∷ []) start ending old new
+    tells_row row ending is tells = (
+      row_line tells.cause row ∷ [],
+      record {
+        in_order = refl;
+        right = ((right, tells.noted, near_is row.near tells.near, page_is row.page tells.page), tt);
+        written =
+            subst (Adds old.out new.out)
+            (sym (ap (λ t. t ++ []) (row_text_is tells.cause row) ∙ append-nil (text_of_row tells.cause row))) tells.written;
+        ended = ended_behind (afters_of_row row) tells.ended
+            ∙ ap (λ es. old.ended ++ (job_read job after ∷ es)) (sym (append-nil (afters_of_row row)));
+      },
+      is,
+    )
+
+    cuts_row : (error : Error) → CutsRow error row_group telling (start job) job answer (work old.out ended) new →
+        TellsFront groups telling start ((job, number) ∷ []) old new
+    cuts_row Memory cut =
+        let row : RowRead = cut.0 in
+        record {
+          lines = [];
+          later = (job, number) ∷ [];
+          untold = job_read job after ∷ afters_of_row row;
+          of_due = ((0, omega arith, refl), row_of_due job number row.noted row.near row.page);
+          in_order = refl;
+          right = tt;
+          written = ([], [], refl, subst (λ o. Adds old.out o []) (sym cut.1) (Adds-none old.out));
+          ended = ended_behind (afters_of_row row) cut.2;
+        }
+    cuts_row Write cut =
+        let row : RowRead = cut.0 in
+        let tells = cut.1 in
+        record {
+          lines = row_line tells.cause row ∷ [];
+          later = [];
+          untold = [];
+          of_due = tt;
+          in_order = refl;
+          right = (inl (right, tells.noted, near_is row.near tells.near, page_is row.page tells.page), tt);
+          written =
+              subst (AddsFront old.out new.out)
+              (sym (ap (λ t. t ++ []) (row_text_is tells.cause row) ∙ append-nil (text_of_row tells.cause row))) tells.written;
+          ended = ended_behind (afters_of_row row) tells.ended
+              ∙ ap (λ es. old.ended ++ (job_read job after ∷ es))
+              (sym (append-nil (afters_of_row row)) ∙ sym (append-nil (afters_of_row row ++ [])));
+        }
+    cuts_row Read cut = absurd cut
+    cuts_row Turns cut = absurd cut
+    cuts_row NoProfile cut = absurd cut
+    cuts_row Items cut = absurd cut
+
+    -- of a call that writes it
+    pub row_told_all : (r : Result Ending Error) →
+        IfOk r (AddsRow row_group telling (start job) job answer (work old.out ended) new) →
+        IfOk r (λ ending. TellsAll groups telling ((job, number) ∷ []) start ending old new)
+    row_told_all (Ok ending) adds = tells_row adds.0 ending adds.1 adds.2
+    row_told_all (Err error) adds = tt
+
+    pub row_cut_all : (r : Result Ending Error) →
+        IfErr r (λ error. CutsRow error row_group telling (start job) job answer (work old.out ended) new) →
+        IfErr r (λ error. TellsFront groups telling start ((job, number) ∷ []) old new)
+    row_cut_all (Ok ending) cut = tt
+    row_cut_all (Err error) cut = cuts_row error cut
 
   -- ---- the lines of a job, and those of all
 
@@ -403,6 +587,21 @@ module _ (groups : Groups) (telling : HowTold) (start : List ℕ → SourceState
         ∙ sym (groups_behind groups telling start job (number + 1) (group_count groups - (number + 1)) (group_count groups) rest))
         (front_behind groups telling start (map (keyed job) (range_with_len 0 number)) ((job, number) ∷ []) old mid new later ending before
         (subst (λ s. TellsFront groups telling s (keyed job number ∷ []) mid new) same cut))
+
+-- a row that was cut is so for an error of a line
+module _ (group : Groups) (telling : HowTold) (start : SourceState) (job : List ℕ) (answer : Result Judgement Error) (old new : Work) where
+  error_of_row : (error : Error) → CutsRow error group telling start job answer old new → IsErrorOfLine error
+  error_of_row Memory cut = tt
+  error_of_row Write cut = tt
+  error_of_row Read cut = cut
+  error_of_row Turns cut = cut
+  error_of_row NoProfile cut = cut
+  error_of_row Items cut = cut
+
+  pub row_errors : (r : Result Ending Error) → IfErr r (λ error. CutsRow error group telling start job answer old new) →
+      IfErr r IsErrorOfLine
+  row_errors (Ok ending) cut = tt
+  row_errors (Err error) cut = error_of_row error cut
 
 -- where it is an error, this holds
 pub where_err : (r : Result Ending Error) (P : Type 0) → P → IfErr r (λ error. P)

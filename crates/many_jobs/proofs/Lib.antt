@@ -1,7 +1,9 @@
+mod Documents
 mod FleetWords
 mod JobChecks
 mod JobNoting
 mod JobObjectExamples
+mod JobRow
 mod JsonObjectFacts
 mod JsonTextFacts
 mod Limiting

@@ -11,6 +11,7 @@ told_by telling = record {
   explanations = map (λ text. text.now) telling.explanations.now;
   exit_zero = telling.exit_zero;
   passes_unchecked = telling.passes_unchecked;
+  read_once = map (λ name. name.now) telling.read_once.now;
 }
 
 abbrev pub asked_for : ManyJobs → Asked

@@ -16,12 +16,13 @@ use Rattle.requests.specs.declared.status.Trouble.TheVariants.{Refused, NoVerdic
 use Rattle.requests.specs.Status.{is_stop_of_read}
 use Rattle.named_inputs.specs.Fleet.{DescribeBy, DescribeFleet, IsEndOfFleet, RefusesBy}
 use Rattle.job_reports.specs.Groups.{Groups}
-use Rattle.many_jobs.specs.JobChecks.{IsErrorOfLine, TellsAll, TellsFront, Work, due_of}
+use Rattle.many_jobs.specs.Document.{TellsDocument, TellsDocumentFront}
+use Rattle.many_jobs.specs.JobChecks.{IsErrorOfLine, Work, due_of}
 use Rattle.many_jobs.specs.Telling.{HowTold}
 use Rattle.job_reports.specs.Refusals.{TellsLine, refused_profile, refused_profile_sentence, unread_profile}
 use Rattle.job_reports.specs.Refusals.{unread_profile_sentence}
 use Rattle.many_jobs.specs.declared.telling.Format.{Format}
-use Rattle.many_jobs.specs.declared.telling.Format.TheVariants.{Line, Words, Json}
+use Rattle.many_jobs.specs.declared.telling.Format.TheVariants.{Line, Words, Json, Html}
 use Rattle.device_profile.specs.declared.fault.Cause.{Cause}
 
 -- how the program ends by how the jobs count
@@ -59,24 +60,26 @@ pub record Asked : Type 0 where
   pub tells_notes : Bool
   pub telling : HowTold
 
--- all lines stand there, or the work stopped behind a front of them
+-- all lines stand there, with what a document has round them, or the work stopped behind a front of that
 abbrev pub LeavesLines : Asked → Groups → (List ℕ → SourceState) → Status → Work → Work → Type 0
 LeavesLines asked groups start status old new =
     let due = flat_map (due_of groups) asked.jobs in
-    ((ending : Ending) × (status ≡ status_of ending) × TellsAll groups asked.telling due start ending old new)
+    ((ending : Ending) × (status ≡ status_of ending) × TellsDocument groups asked.telling due start ending old new)
     ⊎ ((error : Error) × (status ≡ Stopped error) × IsErrorOfLine error
-    × TellsFront groups asked.telling start due old new)
+    × TellsDocumentFront groups asked.telling start due old new)
 
 -- what is told of a profile that is refused, or that could not be read
 abbrev pub refusal_text : Format → ℕ → List ℕ → ℕ → Cause → List ℕ
 refusal_text Line number word line cause = refused_profile number word line cause
 refusal_text Words number word line cause = refused_profile_sentence number word line cause
 refusal_text (Json alloc) number word line cause = refused_profile number word line cause
+refusal_text Html number word line cause = refused_profile number word line cause
 
 abbrev pub unread_text : Format → List ℕ → Option (List ℕ) → List ℕ
 unread_text Line word cause = unread_profile word cause
 unread_text Words word cause = unread_profile_sentence word cause
 unread_text (Json alloc) word cause = unread_profile word cause
+unread_text Html word cause = unread_profile word cause
 
 -- of a profile that could not be read standard error is told, with its word; of want of memory it is not
 abbrev pub TellsStop : Format → Error → Status → OutletState → OutletState → Type 0

@@ -12,6 +12,7 @@ use Rattle.preflight.specs.Stood.{IsCursorOf, IsFontOf}
 use Rattle.preflight.specs.Where.{IsOnPage}
 use Rattle.streams.specs.Errors.{is_err_of_read}
 use Rattle.preflight.specs.Verdict.{PassesItems}
+use Rattle.renderings.specs.Due.{Rendering}
 use Rattle.verdict.specs.declared.verdict.Verdict.{Verdict}
 use Rattle.verdict.specs.Limits.{has_many_items}
 use Rattle.verdict.specs.declared.verdict.Verdict.TheVariants.{Pass as PassOf, Fail as FailOf}
@@ -21,13 +22,14 @@ use Rattle.streams.specs.Outlet.{OutletState, Adds, AddsFront}
 use Rattle.streams.specs.Source.{SourceState}
 use Rattle.job_reports.specs.Right.{IsRightVerdict}
 use Rattle.job_reports.specs.Groups.{Groups, group_at, group_count, reported}
-use Rattle.many_jobs.specs.JobNoting.{AreRightNotes, IsRightlyNoted, Noted, ending_of_noted, note_printer, noted_after}
+use Rattle.many_jobs.specs.JobNoting.{AreRightNotes, IsRightlyNoted, Noted, ending_of_noted, note_printer}
 use Rattle.many_jobs.specs.JobNoting.{noted_text, notes_text}
+use Rattle.many_jobs.specs.JobRow.{IsReread, Reread, RowRead, near_of_job, page_of_job, row_afters, row_told}
 use Rattle.many_jobs.specs.NoteReports.{subject_of, told_note}
 use Rattle.job_reports.specs.declared.kind.Kind.{Kind}
 use Rattle.job_reports.specs.Kinds.{is_unchecked, kind_of}
 use Rattle.job_reports.specs.Reports.{verdict_told}
-use Rattle.many_jobs.specs.Telling.{HowTold, report_text}
+use Rattle.many_jobs.specs.Telling.{HowTold, is_html, report_text}
 use Rattle.many_jobs.specs.declared.ending.Ending.{Ending}
 use Rattle.many_jobs.specs.declared.ending.Ending.TheVariants.{Passes, Fails, HasNoVerdict}
 
@@ -104,7 +106,8 @@ abbrev pub work : OutletState → List JobRead → Work
 work out ended = record { out = out; ended = ended }
 
 -- a line, and what stands below it: the job, the number of the group from 0, what reading the job led to, what came of
--- it, what the system said of a read that failed, and what came of the notes where they are told
+-- it, what the system said of a read that failed, what came of the notes where they are told, and in a document what
+-- came of the items near the place at which it fails, and of the picture of a page
 pub record CheckLine : Type 0 where
   pub job : List ℕ
   pub group : ℕ
@@ -112,23 +115,36 @@ pub record CheckLine : Type 0 where
   pub answer : Result Judgement Error
   pub cause : Option (List ℕ)
   pub noted : Option Noted
+  pub near : Option Reread
+  pub page : Option Reread
 
+-- in a document a line is a row, which has all of that
 abbrev pub line_text : Groups → HowTold → CheckLine → List ℕ
 line_text groups telling line =
     let group = group_at groups line.group in
-    report_text telling (reported group line.job line.answer line.cause) ++ noted_text telling group line.job line.noted
+    if is_html telling.format
+    then row_told telling group line.job line.answer line.cause line.noted line.near line.page
+    else (report_text telling (reported group line.job line.answer line.cause)
+    ++ noted_text telling group line.job line.noted)
 
 -- its answer is right for its group, where reading the job began as this says
 abbrev pub IsAnswered : Groups → (List ℕ → SourceState) → CheckLine → Type 0
 IsAnswered groups start line = IsRightAnswer (group_at groups line.group).fleet (start line.job) line.after line.answer
 
--- and so are the notes for its first printer, which there are just where they are told and the job passes
+-- this is due in a document, and in no other form
+abbrev pub in_document : HowTold → Option Rendering → Option Rendering
+in_document telling due = if is_html telling.format then due else None
+
+-- and so are the notes for its first printer, which there are just where they are told and the job passes; and in a
+-- document the items near the place at which the job fails, and the picture of a page
 abbrev pub IsRightLine : Groups → HowTold → (List ℕ → SourceState) → CheckLine → Type 0
 IsRightLine groups telling start line =
     let group = group_at groups line.group in
     IsAnswered groups start line
     × IsRightlyNoted (told_note telling (subject_of group line.job)) (start line.job)
     (note_printer (verdict_told line.answer) group.note_printers) line.noted
+    × IsReread (in_document telling (near_of_job telling line.job line.answer)) (start line.job) line.near
+    × IsReread (in_document telling (page_of_job telling group line.job line.answer)) (start line.job) line.page
 
 abbrev pub keyed : List ℕ → ℕ → List ℕ × ℕ
 keyed job number = (job, number)
@@ -139,7 +155,7 @@ due_of groups job = map (keyed job) (range_with_len 0 (group_count groups))
 
 -- the readings of a job, under its name
 abbrev pub afters_of : CheckLine → List JobRead
-afters_of line = job_read line.job line.after ∷ noted_after line.job line.noted
+afters_of line = job_read line.job line.after ∷ row_afters line.job line.noted line.near line.page
 
 abbrev pub afters : List CheckLine → List JobRead
 afters lines = flat_map afters_of lines
@@ -219,3 +235,30 @@ CutsNotes Memory group telling printer start job old new =
 CutsNotes Write group telling printer start job old new =
     (noted : Noted) × TellsNotes group telling printer start job old new (AddsFront old.out new.out) noted
 CutsNotes _ group telling printer start job old new = ⊥
+
+-- ---- one row
+
+-- what was read for the row of a job, of which this came, is right, and so is what was written of it
+pub record TellsRow (group : Groups) (telling : HowTold) (start : SourceState) (job : List ℕ)
+    (answer : Result Judgement Error) (old new : Work) (Written : List ℕ → Type 0) (row : RowRead) : Type 0 where
+  pub noted : IsRightlyNoted (told_note telling (subject_of group job)) start
+      (note_printer (verdict_told answer) group.note_printers) row.noted
+  pub near : IsReread (near_of_job telling job answer) start row.near
+  pub page : IsReread (page_of_job telling group job answer) start row.page
+  pub cause : Option (List ℕ)
+  pub written : Written (row_told telling group job answer cause row.noted row.near row.page)
+  pub ended : new.ended ≡ old.ended ++ row_afters job row.noted row.near row.page
+
+-- the whole row was written, and so it counts
+abbrev pub AddsRow : Groups → HowTold → SourceState → List ℕ → Result Judgement Error → Work → Work → Ending → Type 0
+AddsRow group telling start job answer old new ending =
+    (row : RowRead) × (ending ≡ worse (ending_of telling answer) (ending_of_noted row.noted))
+    × TellsRow group telling start job answer old new (Adds old.out new.out) row
+
+-- there was no memory for the row, and nothing was written; or a front of it was
+abbrev pub CutsRow : Error → Groups → HowTold → SourceState → List ℕ → Result Judgement Error → Work → Work → Type 0
+CutsRow Memory group telling start job answer old new =
+    (row : RowRead) × (new.out ≡ old.out) × (new.ended ≡ old.ended ++ row_afters job row.noted row.near row.page)
+CutsRow Write group telling start job answer old new =
+    (row : RowRead) × TellsRow group telling start job answer old new (AddsFront old.out new.out) row
+CutsRow _ group telling start job answer old new = ⊥

@@ -32,11 +32,6 @@ pub record Noted : Type 0 where
   pub notes : Result (List ℕ) Error
   pub cause : Option (List ℕ)
 
--- of notes that are kept in memory
-abbrev pub kept_notes : {T : Type 0} → (T → List ℕ) → Result T Error → Result (List ℕ) Error
-kept_notes bytes (Ok text) = Ok (bytes text)
-kept_notes bytes (Err error) = Err error
-
 -- why there are none
 abbrev pub IsErrorOfNotes : Error → Type 0
 IsErrorOfNotes Memory = ⊤

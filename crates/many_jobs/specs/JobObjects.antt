@@ -21,6 +21,7 @@ use Rattle.verdict.specs.declared.verdict.Verdict.TheVariants.{Pass, Fail}
 use Rattle.job_reports.specs.declared.kind.Kind.{Kind}
 use Rattle.job_reports.specs.CommandWords.{command_words, font_commands}
 use Rattle.job_reports.specs.Kinds.{kind_name, kind_of}
+use Rattle.job_reports.specs.RefusedNames.{refused_name, value_key}
 use Rattle.many_jobs.specs.JsonObject.{with_number, with_text}
 use Rattle.many_jobs.specs.JsonTexts.{name_text, words_text}
 use Rattle.job_reports.specs.Reports.{Reported, culprit_of, cursor_of, font_of, number_told, page_of, verdict_told}
@@ -85,6 +86,11 @@ abbrev pub with_command : Option Culprit → Members → Members
 with_command None members = members
 with_command (Some culprit) members = with_text (codes "command") (words_text (command_words culprit)) members
 
+-- what HP's manual calls what is not checked
+abbrev pub with_command_name : List ℕ → Members → Members
+with_command_name name members =
+    if length name == 0 then members else with_text (codes "command_name") (words_text name) members
+
 -- what the program tells of what is wrong, nothing where that is not asked for
 abbrev pub with_explanation : List ℕ → Members → Members
 with_explanation explanation members =
@@ -112,12 +118,13 @@ abbrev pub with_answer : List ℕ → Reported → Result Verdict Error → Memb
 with_answer explanation report (Ok (Pass pages marks)) members = with_pass pages marks members
 with_answer explanation report (Ok (Fail place profile reason)) members =
     with_explanation explanation
+    (with_command_name (refused_name (value_key (culprit_of report.answer)) reason)
     (with_command (culprit_of report.answer)
     (with_character reason
     (with_missing_font (font_of report.answer)
     (with_cursor (cursor_of report.answer)
     (with_page (page_of report.answer)
-    (with_kind (kind_of reason (culprit_of report.answer)) (with_fail place profile reason members)))))))
+    (with_kind (kind_of reason (culprit_of report.answer)) (with_fail place profile reason members))))))))
 with_answer explanation report (Err error) members = with_error error report.cause members
 
 -- ---- the whole object

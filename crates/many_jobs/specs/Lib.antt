@@ -1,8 +1,10 @@
 pub mod Asked
 pub mod CheckMany
+pub mod Document
 pub mod FleetFile
 pub mod JobChecks
 pub mod JobNoting
+pub mod JobRow
 pub mod JobObjects
 pub mod JsonObject
 pub mod JsonTexts

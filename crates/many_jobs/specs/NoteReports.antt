@@ -10,11 +10,12 @@ use Rattle.job_reports.specs.Groups.{Groups}
 use Rattle.shown_bytes.specs.Shown.{shown}
 use Rattle.many_jobs.specs.JobObjects.{with_explanation}
 use Rattle.job_reports.specs.JobSentences.{named_first}
+use Rattle.job_rows.specs.Heads.{note_part}
 use Rattle.many_jobs.specs.JsonObject.{with_number, with_text}
 use Rattle.many_jobs.specs.JsonTexts.{name_text, words_text}
 use Rattle.many_jobs.specs.Telling.{HowTold}
 use Rattle.many_jobs.specs.declared.telling.Format.{Format}
-use Rattle.many_jobs.specs.declared.telling.Format.TheVariants.{Line, Words, Json}
+use Rattle.many_jobs.specs.declared.telling.Format.TheVariants.{Line, Words, Json, Html}
 
 -- what notes are about: a job, and a printer by its name
 pub record NoteSubject : Type 0 where
@@ -59,12 +60,13 @@ told_members explanation subject told =
 abbrev pub told_object : List ℕ → NoteSubject → Told → List ℕ
 told_object explanation subject told = compact_text (object (told_members explanation subject told)) ++ 10 ∷ []
 
--- ---- with the explanation of the note, below a line or a sentence, or in an object
+-- ---- with the explanation of the note, below a line or a sentence, or in an object, or below a row
 
 abbrev pub told_in : Format → List ℕ → NoteSubject → Told → List ℕ
 told_in Line below subject told = told_line subject told ++ below
 told_in Words below subject told = told_sentence subject told ++ below
 told_in (Json alloc) below subject told = told_object below subject told
+told_in Html below subject told = note_part below (told_sentence subject told)
 
 abbrev pub told_note : HowTold → NoteSubject → Told → List ℕ
 told_note telling subject told =

@@ -10,8 +10,8 @@ ghost use Rattle.many_jobs.specs.JobChecks.{work};
 ghost use Rattle.named_inputs.specs.Texts.{AsksInOrder, IsErrorOfReading};
 ghost use Rattle.requests.specs.Status.{is_stop_of_read, is_stop_of_write};
 
+use crate::document::tell_document;
 use crate::ending::Ending;
-use crate::job_checks::check_jobs;
 use crate::kept_texts::{note_printers, printer_names};
 use crate::limited::limited_fleet;
 use crate::telling::{Format, Telling};
@@ -42,7 +42,8 @@ pub struct ManyJobs<'w, 'n> {
 
 /// The command `check` for many jobs: a line on standard output for each job, or where `is_each` is
 /// set for each job and printer, as soon as it is known. Where `tells_notes` is set the notes of a
-/// job that passes stand below its line, for the first printer that this is about.
+/// job that passes stand below its line, for the first printer that this is about. In a document of
+/// HTML a row stands for a line.
 ///
 /// All profiles are read and judged before the first job. Of one that is refused or cannot be read
 /// standard error tells, with the word that names it.
@@ -109,7 +110,7 @@ fn check_for<'n, J: Jobs<'n>, O: Outlet, A: Allocator + Copy>(
         (work (O.state stdout.new) (J.ended jobs.new)) }
     ensures write { (O.state stdout.new).failed ≡ is_stop_of_write result }
 {
-    match check_jobs(alloc, jobs, asked.jobs, printers, &asked.telling, stdout) {
+    match tell_document(alloc, jobs, asked.jobs, printers, &asked.telling, stdout) {
         Ok(ending) => status_of(ending),
         Err(error) => Status::Stopped(error),
     }
@@ -219,6 +220,7 @@ fn push_refusal<A: Allocator + Copy>(
         Format::Line => push_refused_profile(text, number, word, line, cause),
         Format::Words => push_refused_profile_sentence(alloc, text, number, word, line, cause),
         Format::Json(_) => push_refused_profile(text, number, word, line, cause),
+        Format::Html => push_refused_profile(text, number, word, line, cause),
     }
 }
 
@@ -259,6 +261,7 @@ fn push_unread<A: Allocator + Copy>(
         Format::Line => push_unread_profile(text, word, cause),
         Format::Words => push_unread_profile_sentence(alloc, text, word, cause),
         Format::Json(_) => push_unread_profile(text, word, cause),
+        Format::Html => push_unread_profile(text, word, cause),
     }
 }
 

@@ -1,11 +1,14 @@
 //! How jobs count for the exit status of a check of many jobs.
 ghost use Rattle.std.specs.Prelude.{◌≡◌};
+ghost use Rattle.job_rows.specs.Kept.{kept_part};
 ghost use Rattle.many_jobs.specs.Asked.{told_by};
 ghost use Rattle.many_jobs.specs.JobChecks.{ending_of, ending_of_kind, worse};
+ghost use Rattle.many_jobs.specs.JobRow.{ending_of_kept};
 
 use crate::telling::Telling;
 use job_reports::{Kind, kind_of};
 use preflight::{Judgement, Verdict};
+use std::alloc::Allocator;
 use streams::Error;
 
 /// How jobs count for the exit status.
@@ -49,6 +52,17 @@ impl Ending {
             Ending::Passes
         } else {
             Ending::Fails
+        }
+    }
+
+    /// How notes count that are told in a row: where they could not be had there is no verdict.
+    pub(crate) fn of_notes<A: Allocator>(notes: &Option<Result<Vec<u8, A>, Error>>) -> Ending
+        ensures { result ≡ ending_of_kept (kept_part (λ text. text.items) notes.now) }
+    {
+        match notes {
+            None => Ending::Passes,
+            Some(Ok(_)) => Ending::Passes,
+            Some(Err(_)) => Ending::HasNoVerdict,
         }
     }
 

@@ -8,6 +8,7 @@ ghost use Rattle.many_jobs.specs.JobChecks.{due_of, keyed, work};
 
 use crate::ending::Ending;
 use crate::job_noting::{note_printer, tell_notes};
+use crate::job_row::tell_row;
 use crate::telling::Telling;
 use crate::told_lines::tell_line;
 use job_reports::PrinterGroup;
@@ -81,7 +82,7 @@ fn tell_job<'n, J: Jobs<'n>, O: Outlet, A: Allocator + Copy>(
 }
 
 /// Checks a job for the group of this number, from 0, and writes its line, and below it the notes
-/// where they are told. For these the job is read a second time.
+/// where they are told, or in a document its row. For these the job is read again.
 fn tell_group<'n, J: Jobs<'n>, O: Outlet, A: Allocator + Copy>(
     alloc: A,
     jobs: &mut J,
@@ -110,6 +111,9 @@ fn tell_group<'n, J: Jobs<'n>, O: Outlet, A: Allocator + Copy>(
     let answer = check_group(alloc, &mut job, &group);
     let error = job.error();
     jobs.end(name, job);
+    if telling.format.is_html() {
+        return tell_row(alloc, jobs, name, &group, answer, error, telling, stdout);
+    }
     tell_line(alloc, &group, name, answer, error, telling, stdout)?;
     let ending = Ending::of(telling, answer);
     match note_printer(answer, group.note_printers()) {

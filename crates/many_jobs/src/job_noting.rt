@@ -5,7 +5,8 @@ ghost use Rattle.streams.specs.Errors.{is_err_of_write};
 ghost use Rattle.streams.specs.Outlet.{Adds};
 ghost use Rattle.many_jobs.specs.Asked.{told_by};
 ghost use Rattle.many_jobs.specs.JobChecks.{AddsTold, CutsNotes, CutsTold, TellsNotes, work};
-ghost use Rattle.many_jobs.specs.JobNoting.{AreRightNotes, Noted, ending_of_notes, kept_notes};
+ghost use Rattle.job_rows.specs.Kept.{kept_text};
+ghost use Rattle.many_jobs.specs.JobNoting.{AreRightNotes, Noted, ending_of_notes};
 ghost use Rattle.many_jobs.specs.JobNoting.{note_printer, notes_text};
 ghost use Rattle.many_jobs.specs.NoteReports.{subject_of, told_note};
 ghost use Rattle.job_reports.specs.Reports.{verdict_told};
@@ -79,7 +80,7 @@ pub fn tell_notes<'n, J: Jobs<'n>, O: Outlet, A: Allocator + Copy>(
 /// An error is `Read` where a read failed, or where the job does not pass any more, since it was
 /// another at the first reading; `Memory` where the allocator refused a request, or `Turns` after
 /// 2^40 reads without an end.
-fn read_notes<'t, S: Source, A: Allocator + Copy>(
+pub(crate) fn read_notes<'t, S: Source, A: Allocator + Copy>(
     alloc: A,
     job: &mut S,
     name: &'t [u8],
@@ -90,7 +91,7 @@ fn read_notes<'t, S: Source, A: Allocator + Copy>(
     requires { IsFalse (S.state job.old).failed }
     ensures { AreRightNotes (told_note (told_by telling.now) (subject_of group.now name.now))
         printer.now (S.state job.old) (S.state job.new)
-        (kept_notes (λ text. text.items) result) }
+        (kept_text (λ text. text.items) result) }
 {
     let report = NoteReport {
         alloc,
@@ -133,13 +134,13 @@ fn write_notes<'t, O: Outlet, A: Allocator + Copy>(
 ) -> Result<Ending, Error>
     requires { IsFalse (O.state stdout.old).failed }
     ensures told { IfOk result (λ ending. (ending ≡ ending_of_notes
-        (kept_notes (λ text. text.items) notes)) × AddsTold
+        (kept_text (λ text. text.items) notes)) × AddsTold
         (notes_text (told_by telling.now) group.now name.now
-        (kept_notes (λ text. text.items) notes))
+        (kept_text (λ text. text.items) notes))
         (O.state stdout.old) (O.state stdout.new)) }
     ensures cut { IfErr result (λ error. CutsTold error
         (notes_text (told_by telling.now) group.now name.now
-        (kept_notes (λ text. text.items) notes))
+        (kept_text (λ text. text.items) notes))
         (O.state stdout.old) (O.state stdout.new)) }
     ensures write { (O.state stdout.new).failed ≡ is_err_of_write result }
 {

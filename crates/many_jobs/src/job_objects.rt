@@ -7,6 +7,7 @@ ghost use Rattle.many_jobs.specs.JobObjects.{
   with_answer,
   with_character,
   with_command,
+  with_command_name,
   with_cursor,
   with_error,
   with_explanation,
@@ -20,11 +21,14 @@ ghost use Rattle.many_jobs.specs.JobObjects.{
   with_printer,
 };
 ghost use Rattle.many_jobs.specs.JsonObject.{members_of};
+ghost use Rattle.job_reports.specs.RefusedNames.{refused_name, value_key};
 ghost use Rattle.job_reports.specs.Reports.{number_told, verdict_told};
 
 use crate::json_object::Object;
 use device_profile::FontRequest;
-use job_reports::{Kind, Report, kind_of, push_command_words, push_font_commands};
+use job_reports::{
+    Kind, Report, kind_of, push_command_words, push_font_commands, push_refused_name,
+};
 use line_words::{bare_name, push_escaped, push_field_words};
 use page_env::Finding;
 use preflight::{Culprit, MissingFont, SheetSpot, Verdict};
@@ -109,6 +113,7 @@ fn put_answer<A: Allocator + Copy>(
             put_missing_font(alloc, object, report.font())?;
             put_character(alloc, object, finding)?;
             put_command(alloc, object, report.culprit())?;
+            put_command_name(alloc, object, report.culprit(), finding)?;
             put_explanation(object, explanation)
         }
         Err(error) => put_error(object, error, report.cause),
@@ -266,6 +271,24 @@ fn put_command<A: Allocator + Copy>(
         }
         None => Ok(()),
     }
+}
+
+/// Puts what HP's manual calls what is not checked, where it has a name for it.
+fn put_command_name<A: Allocator + Copy>(
+    alloc: A,
+    object: &mut Object,
+    culprit: Option<Culprit>,
+    finding: Reason,
+) -> Result<(), AllocError>
+    ensures { OnOk result (members_of object.new ≡ with_command_name
+        (refused_name (value_key culprit) finding) (members_of object.old)) }
+{
+    let mut name = Vec::new(alloc);
+    push_refused_name(alloc, &mut name, culprit, finding)?;
+    if name.is_empty() {
+        return Ok(());
+    }
+    object.put_words("command_name", name.as_slice())
 }
 
 /// Puts an explanation, where there is one.

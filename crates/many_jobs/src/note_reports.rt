@@ -2,6 +2,7 @@
 ghost use Rattle.std.specs.Prelude.{◌≡◌, ◌++◌, IfOk, OnOk, decimal, map};
 ghost use Rattle.notes.specs.Note.{note_number};
 ghost use Rattle.meanings.specs.Explanations.{explained_by};
+ghost use Rattle.job_rows.specs.Heads.{note_part};
 ghost use Rattle.many_jobs.specs.JsonObject.{members_of};
 ghost use Rattle.many_jobs.specs.NoteReports.{note_phrase, note_words, told_in, told_line};
 ghost use Rattle.many_jobs.specs.NoteReports.{told_members, told_object, told_sentence};
@@ -10,6 +11,7 @@ use crate::job_objects::put_explanation;
 use crate::json_object::Object;
 use crate::telling::Format;
 use job_reports::push_named_first;
+use job_rows::push_note;
 use line_words::push_named;
 use meanings::explain::explained_by;
 use notes::{Note, NoteText, note_name, short_note};
@@ -46,6 +48,7 @@ impl<B: Allocator + Copy> NoteText for NoteReport<'_, B> {
             Format::Line => self.push_line(text, place, note)?,
             Format::Words => self.push_sentence(text, place, note)?,
             Format::Json(memory) => return self.push_object(memory, text, place, note, below),
+            Format::Html => return self.push_paragraph(text, place, note, below),
         }
         text.extend_from_slice(below.as_bytes())
     }
@@ -89,6 +92,23 @@ impl<B: Allocator + Copy> NoteReport<'_, B> {
         push_named(text, b" has a note at byte ", place)?;
         push_note_phrase(text, note)?;
         text.extend_from_slice(b"\n")
+    }
+
+    /// Appends what a row has of a note, with this explanation, where there is one.
+    fn push_paragraph<A: Allocator>(
+        &self,
+        text: &mut Vec<u8, A>,
+        place: Place,
+        note: Note,
+        explanation: &str,
+    ) -> Result<(), AllocError>
+        ensures { OnOk result (text.new.items ≡ text.old.items ++ note_part explanation.now
+            (told_sentence (record { job = self.now.job.now; printer = self.now.printer.now })
+            (record { place = place; note = note }))) }
+    {
+        let mut sentence = Vec::new(self.alloc);
+        self.push_sentence(&mut sentence, place, note)?;
+        push_note(text, sentence.as_slice(), explanation)
     }
 
     /// Appends the object of a note, with this explanation, where there is one.

@@ -1,10 +1,13 @@
 //! How it is told what came of a job.
 ghost use Rattle.std.specs.Prelude.{◌≡◌, ◌++◌, OnOk, map};
+ghost use Rattle.job_reports.specs.Reports.{verdict_told};
+ghost use Rattle.job_rows.specs.Rows.{row_text};
 ghost use Rattle.many_jobs.specs.Asked.{told_by};
-ghost use Rattle.many_jobs.specs.Telling.{explained, report_text};
+ghost use Rattle.many_jobs.specs.Telling.{explained, is_html, no_parts, report_text};
 
 use crate::job_objects::push_job_object;
 use job_reports::{Report, push_job_line, push_job_sentence};
+use job_rows::{RowParts, push_row};
 use meanings::explain::explained_by;
 use preflight::Verdict;
 use std::alloc::{AllocError, Allocator, Global};
@@ -19,6 +22,22 @@ pub enum Format {
     Words,
     /// An object of JSON on a line, which is put together in this memory.
     Json(Global),
+    /// A row of a document of HTML.
+    Html,
+}
+
+impl Format {
+    /// Whether all is told in one document, a row a job.
+    pub(crate) fn is_html(self) -> bool
+        ensures { result ≡ is_html self }
+    {
+        match self {
+            Format::Line => false,
+            Format::Words => false,
+            Format::Json(_) => false,
+            Format::Html => true,
+        }
+    }
 }
 
 /// How it is told what came of jobs.
@@ -31,9 +50,12 @@ pub struct Telling<'t> {
     pub exit_zero: bool,
     /// So does one by which pclcheck alone says no.
     pub passes_unchecked: bool,
+    /// The jobs that can be read only once: a document has no page of them.
+    pub read_once: &'t [&'t [u8]],
 }
 
-/// Appends what is told of a job, and below a line or a sentence the explanation of what is wrong.
+/// Appends what is told of a job, and below a line or a sentence, or in a row, the explanation of
+/// what is wrong.
 pub fn push_report<A: Allocator + Copy>(
     alloc: A,
     line: &mut Vec<u8, A>,
@@ -48,8 +70,41 @@ pub fn push_report<A: Allocator + Copy>(
         Format::Line => push_job_line(line, report)?,
         Format::Words => push_job_sentence(alloc, line, report)?,
         Format::Json(memory) => return push_job_object(alloc, memory, line, report, below),
+        Format::Html => {
+            let none = no_parts();
+            return push_row(alloc, line, report, below, &none);
+        }
     }
     line.extend_from_slice(below.as_bytes())
+}
+
+/// Appends the row of a job of which further readings told this, with the explanation of what is
+/// wrong.
+pub(crate) fn push_told_row<A: Allocator + Copy>(
+    alloc: A,
+    line: &mut Vec<u8, A>,
+    report: &Report<'_, '_, A>,
+    telling: &Telling<'_>,
+    parts: &RowParts<A>,
+) -> Result<(), AllocError>
+    ensures { OnOk result (line.new.items ≡ line.old.items ++ row_text
+        (explained (told_by telling.now).explanations (verdict_told report.now.answer))
+        report.now parts.now) }
+{
+    let below = explained(telling.explanations, report.verdict());
+    push_row(alloc, line, report, below, parts)
+}
+
+/// Nothing is told of a job by further readings.
+fn no_parts<A: Allocator>() -> RowParts<A>
+    ensures { result ≡ no_parts }
+{
+    RowParts {
+        notes: None,
+        near: None,
+        page: None,
+        is_once: false,
+    }
 }
 
 /// What these explanations say of what is wrong with a job.

@@ -6,7 +6,8 @@ use Rattle.std.specs.Prelude.{◌≡◌, ◌⊎◌, ◌∷◌, ◌++◌, ℕ, Bo
 use Rattle.std.specs.Prelude.{IsTrue, Option, Some, false, if◌then◌else◌}
 use Rattle.std.specs.declared.alloc.Global.{Global}
 use Rattle.requests.specs.declared.many_words.Form.{Form}
-use Rattle.requests.specs.declared.many_words.Form.TheVariants.{Line as LineForm, Words as WordsForm, Json as JsonForm}
+use Rattle.requests.specs.declared.many_words.Form.TheVariants.{Line as LineForm, Words as WordsForm}
+use Rattle.requests.specs.declared.many_words.Form.TheVariants.{Json as JsonForm, Html as HtmlForm}
 use Rattle.requests.specs.declared.many_words.ManyWords.{ManyWords}
 use Rattle.streams.specs.declared.error.Error.TheVariants.{Memory}
 use Rattle.streams.specs.Ended.{JobRead}
@@ -23,7 +24,7 @@ use Rattle.requests.specs.declared.status.Status.{Status}
 use Rattle.requests.specs.declared.status.Status.TheVariants.{Stopped}
 use Rattle.requests.specs.Status.{is_stop_of_write}
 use Rattle.many_jobs.specs.declared.telling.Format.{Format}
-use Rattle.many_jobs.specs.declared.telling.Format.TheVariants.{Line, Words, Json}
+use Rattle.many_jobs.specs.declared.telling.Format.TheVariants.{Line, Words, Json, Html}
 use Rattle.many_requests.specs.Inputs.{RefusesInput, reads_input_again}
 use Rattle.many_requests.specs.Lists.{RefusesList, is_refused_list, list_fault, path_of}
 use Rattle.many_requests.specs.Names.{AreNamesAt, names_in}
@@ -70,6 +71,7 @@ abbrev pub IsForm : Form → Format → Type 0
 IsForm LineForm format = format ≡ Line
 IsForm WordsForm format = format ≡ Words
 IsForm JsonForm format = (memory : Global) × (format ≡ Json memory)
+IsForm HtmlForm format = format ≡ Html
 
 -- it is told as it is asked for
 pub record IsTelling (asking : Asking) (telling : HowTold) : Type 0 where

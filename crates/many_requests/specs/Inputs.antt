@@ -27,7 +27,7 @@ reads_input_again names_from asked =
 -- standard input cannot be read again
 abbrev pub input_again : List ℕ
 input_again =
-    codes "error: standard input can be read only once; --each reads a job for each printer, and --notes once more\n"
+    codes "error: standard input can be read only once, as one job or as the list, without --notes and --each\n"
 
 -- for each printer, or for its notes
 abbrev pub read_apart : List ℕ

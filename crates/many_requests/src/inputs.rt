@@ -13,8 +13,7 @@ use std::rt::Files;
 use streams::{Error, Outlet, write_text};
 
 const INPUT_AGAIN: &[u8] =
-    b"error: standard input can be read only once; --each reads a job for each printer, \
-      and --notes once more\n";
+    b"error: standard input can be read only once, as one job or as the list, without --notes and --each\n";
 
 /// Why a check reads a job again.
 const READ_APART: &[u8] = b"--each reads it for each printer, and --notes once more\n";

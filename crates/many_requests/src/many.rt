@@ -11,6 +11,7 @@ ghost use Rattle.many_jobs.specs.FleetFile.{TellsOfFleet};
 use crate::inputs::refuse_inputs;
 use crate::lists::{is_refused_list, list_fault, path_of, refuse_list};
 use crate::names::{push_names, read_names};
+use job_reports::is_pipe;
 use many_jobs::{Format, ManyJobs, Telling, check_many, read_fleet_file};
 use meanings::EXPLANATIONS;
 use named_inputs::{FileJobs, FileTexts, ProfileTexts};
@@ -52,13 +53,16 @@ pub fn check_asked<R: Files + Input + AllocGlobal, O: Outlet, E: Outlet>(
     let Ok(jobs) = all_jobs(alloc, words.jobs.as_slice(), names.as_slice()) else {
         return Status::Stopped(Error::Memory);
     };
+    let Ok(pipes) = pipes_in(rt, words.form, jobs.as_slice()) else {
+        return Status::Stopped(Error::Memory);
+    };
     let many = ManyJobs {
         jobs: jobs.as_slice(),
         printers: printers.as_slice(),
         most_items: words.most_items,
         is_each: words.is_each,
         tells_notes: words.tells_notes,
-        telling: telling_of(alloc, words),
+        telling: telling_of(alloc, words, pipes.as_slice()),
     };
     check_found(rt, words, names.as_slice(), &many, used, stdout, stderr)
 }
@@ -176,14 +180,33 @@ fn all_jobs<'n>(
     Ok(all)
 }
 
-/// How it is told what came of a job.
-fn telling_of(alloc: Global, words: &ManyWords<'_>) -> Telling<'static>
+/// The jobs whose bytes are gone once they are read, where a document would have their pages.
+fn pipes_in<'n, R: Files + AllocGlobal>(
+    rt: &R,
+    form: Form,
+    jobs: &[&'n [u8]],
+) -> Result<Vec<&'n [u8]>, AllocError> {
+    let mut pipes = Vec::new(rt.alloc());
+    if form != Form::Html {
+        return Ok(pipes);
+    }
+    for job in jobs {
+        if is_pipe(rt, job) {
+            pipes.push(*job)?;
+        }
+    }
+    Ok(pipes)
+}
+
+/// How it is told what came of a job, where these can be read only once.
+fn telling_of<'t>(alloc: Global, words: &ManyWords<'_>, read_once: &'t [&'t [u8]]) -> Telling<'t>
     ensures { IsTelling (asking (map (λ text. text.now) EXPLANATIONS) words.now) (told_by result) }
 {
     let format = match words.form {
         Form::Line => Format::Line,
         Form::Words => Format::Words,
         Form::Json => Format::Json(alloc),
+        Form::Html => Format::Html,
     };
     let explanations: &'static [&'static str] = if words.explains { &EXPLANATIONS } else { &[] };
     Telling {
@@ -191,5 +214,6 @@ fn telling_of(alloc: Global, words: &ManyWords<'_>) -> Telling<'static>
         explanations,
         exit_zero: words.exit_zero,
         passes_unchecked: words.passes_unchecked,
+        read_once,
     }
 }

@@ -64,12 +64,15 @@ told_to_the_end p f xs i a b h all =
 -- the pieces of the line on a code that nothing has
 pub Writes-unknown : (a b : OutletState) (code first : List ℕ) → first ≡ code →
     Writes a b
-    (codes "error: no fault, finding or note has the number or the name '" ++ (first ++ codes "'; 'pclcheck explain' writes all\n")) →
+    (codes "error: no fault, finding, note or command has the number or the name '"
+    ++ (first ++ codes "'; 'pclcheck explain' writes all, 'pclcheck explain commands' lists the commands\n")) →
     Writes a b (complaint (Some code))
 Writes-unknown a b code first e written =
     subst
     (λ l.
-    Writes a b (codes "error: no fault, finding or note has the number or the name '" ++ (l ++ codes "'; 'pclcheck explain' writes all\n")))
+    Writes a b
+    (codes "error: no fault, finding, note or command has the number or the name '"
+    ++ (l ++ codes "'; 'pclcheck explain' writes all, 'pclcheck explain commands' lists the commands\n")))
     e written
 
 -- a test of what elements stand for

@@ -1,2 +1,4 @@
-mod ExplainFacts
+mod ChapterFacts
+mod CommandFacts
+pub mod ExplainFacts
 mod ExplainedReasons

@@ -50,8 +50,8 @@ end_of_explain unknown failed = if unknown then Usage else (if failed then Stopp
 abbrev pub complaint : Option (List ℕ) → List ℕ
 complaint None = []
 complaint (Some code) =
-    codes "error: no fault, finding or note has the number or the name '" ++ code
-    ++ codes "'; 'pclcheck explain' writes all\n"
+    codes "error: no fault, finding, note or command has the number or the name '" ++ code
+    ++ codes "'; 'pclcheck explain' writes all, 'pclcheck explain commands' lists the commands\n"
 
 -- ---- of what they tell
 

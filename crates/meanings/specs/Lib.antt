@@ -1,1 +1,2 @@
+pub mod CommandsTold
 pub mod Explanations

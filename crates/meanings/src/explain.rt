@@ -3,38 +3,79 @@ ghost use Rattle.std.specs.Prelude.{◌≡◌, ◌==◌, ◌<◌, decimal, map, 
 ghost use Rattle.std.specs.Prelude.{IsFalse, IsTrue};
 ghost use Rattle.std.specs.List.{before_first, after_first, list_any};
 ghost use Rattle.streams.specs.Writing.{Writes};
+ghost use Rattle.command_names.specs.CommandNames.{table, texts_in};
+ghost use Rattle.meanings.specs.CommandsTold.{is_unheard, told};
 ghost use Rattle.meanings.specs.Explanations.{complaint, end_of_explain, explained_by, explanation};
 ghost use Rattle.meanings.specs.Explanations.{is_about, is_asked, is_unknown};
 
+use crate::commands_told::{asks_of_commands, tell_commands};
 use crate::explanations::EXPLANATIONS;
+use command_names::{CHAPTERS, Chapter};
 use itoa::Buffer;
 use requests::{Status, write_pieces};
 use streams::{Error, Outlet, write_text};
 
 /// The command `explain`: on standard output what the faults, findings and notes mean that have
-/// this number or name, or what all mean. A code that none has is a usage error, of which standard
-/// error tells.
+/// this number or name, or what all mean; or what is known of the commands of printers that have
+/// this key, spelling or name, or a list of them. A code that none has is a usage error, of which
+/// standard error tells.
 pub fn explain<O: Outlet, E: Outlet>(code: Option<&str>, stdout: &mut O, stderr: &mut E) -> Status
     requires stdout { IsFalse (O.state stdout.old).failed }
     requires stderr { IsFalse (E.state stderr.old).failed }
-    ensures text { IsFalse (is_unknown (map (λ text. text.now) EXPLANATIONS)
+    ensures text { IsFalse (is_unheard (map (λ text. text.now) EXPLANATIONS) table
         (option_map (λ word. word.now) code.entry)) →
         Writes (O.state stdout.old) (O.state stdout.new)
-        (explanation (map (λ text. text.now) EXPLANATIONS)
+        (told (map (λ text. text.now) EXPLANATIONS) table
         (option_map (λ word. word.now) code.entry)) }
-    ensures untouched { IsTrue (is_unknown (map (λ text. text.now) EXPLANATIONS)
+    ensures untouched { IsTrue (is_unheard (map (λ text. text.now) EXPLANATIONS) table
         (option_map (λ word. word.now) code.entry)) → stdout.new ≡ stdout.old }
     ensures status { result ≡ end_of_explain
-        (is_unknown (map (λ text. text.now) EXPLANATIONS)
+        (is_unheard (map (λ text. text.now) EXPLANATIONS) table
         (option_map (λ word. word.now) code.entry)) (O.state stdout.new).failed }
-    ensures complaint { IsTrue (is_unknown (map (λ text. text.now) EXPLANATIONS)
+    ensures complaint { IsTrue (is_unheard (map (λ text. text.now) EXPLANATIONS) table
         (option_map (λ word. word.now) code.entry)) →
         Writes (E.state stderr.old) (E.state stderr.new)
         (complaint (option_map (λ word. word.now) code.entry)) }
-    ensures quiet { IsFalse (is_unknown (map (λ text. text.now) EXPLANATIONS)
+    ensures quiet { IsFalse (is_unheard (map (λ text. text.now) EXPLANATIONS) table
         (option_map (λ word. word.now) code.entry)) → stderr.new ≡ stderr.old }
 {
-    explain_from(&EXPLANATIONS, code, stdout, stderr)
+    explain_of(&EXPLANATIONS, &CHAPTERS, code, stdout, stderr)
+}
+
+/// Writes what is known of a code out of these texts, where the commands of these chapters have
+/// the first word.
+fn explain_of<O: Outlet, E: Outlet>(
+    texts: &[&str],
+    chapters: &[Chapter],
+    code: Option<&str>,
+    stdout: &mut O,
+    stderr: &mut E,
+) -> Status
+    requires stdout { IsFalse (O.state stdout.old).failed }
+    requires stderr { IsFalse (E.state stderr.old).failed }
+    ensures text { IsFalse (is_unheard (map (λ text. text.now) texts.now)
+        (texts_in chapters.now) (option_map (λ word. word.now) code.entry)) →
+        Writes (O.state stdout.old) (O.state stdout.new)
+        (told (map (λ text. text.now) texts.now) (texts_in chapters.now)
+        (option_map (λ word. word.now) code.entry)) }
+    ensures untouched { IsTrue (is_unheard (map (λ text. text.now) texts.now)
+        (texts_in chapters.now) (option_map (λ word. word.now) code.entry)) →
+        stdout.new ≡ stdout.old }
+    ensures status { result ≡ end_of_explain (is_unheard (map (λ text. text.now) texts.now)
+        (texts_in chapters.now) (option_map (λ word. word.now) code.entry))
+        (O.state stdout.new).failed }
+    ensures complaint { IsTrue (is_unheard (map (λ text. text.now) texts.now)
+        (texts_in chapters.now) (option_map (λ word. word.now) code.entry)) →
+        Writes (E.state stderr.old) (E.state stderr.new)
+        (complaint (option_map (λ word. word.now) code.entry)) }
+    ensures quiet { IsFalse (is_unheard (map (λ text. text.now) texts.now)
+        (texts_in chapters.now) (option_map (λ word. word.now) code.entry)) →
+        stderr.new ≡ stderr.old }
+{
+    if asks_of_commands(chapters, code) {
+        return tell_commands(chapters, code, stdout);
+    }
+    explain_from(texts, code, stdout, stderr)
 }
 
 /// Writes the explanation of a code, or of all, out of these.
@@ -154,9 +195,9 @@ fn refuse<E: Outlet>(code: &str, stderr: &mut E) -> Status
     ensures line { Writes (E.state stderr.old) (E.state stderr.new) (complaint (Some code.now)) }
 {
     let pieces: [&[u8]; 3] = [
-        b"error: no fault, finding or note has the number or the name '",
+        b"error: no fault, finding, note or command has the number or the name '",
         code.as_bytes(),
-        b"'; 'pclcheck explain' writes all\n",
+        b"'; 'pclcheck explain' writes all, 'pclcheck explain commands' lists the commands\n",
     ];
     // Where standard error takes nothing, the status alone is left to tell.
     let _ = write_pieces(stderr, &pieces);

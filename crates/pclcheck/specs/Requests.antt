@@ -7,24 +7,26 @@ use Rattle.requests.specs.declared.request.Request.TheVariants as requests
 use Rattle.streams.specs.Outlet.{OutletState}
 use Rattle.streams.specs.Used.{FileUse}
 use Rattle.streams.specs.Writing.{Writes}
-use Rattle.meanings.specs.Explanations.{complaint, end_of_explain, explanation, is_unknown}
+use Rattle.command_names.specs.CommandNames.{table}
+use Rattle.meanings.specs.CommandsTold.{is_unheard, told}
+use Rattle.meanings.specs.Explanations.{complaint, end_of_explain}
 use Rattle.profile_commands.specs.ProfileList.{LeavesModels}
 use Rattle.profile_commands.specs.ProfileNew.{LeavesProfile}
 use Rattle.named_inputs.specs.Texts.{text_named}
 use Rattle.requests.specs.declared.status.Status.{Status}
 use Rattle.many_requests.specs.Checks.{LeavesChecks, asking}
 use Rattle.file_requests.specs.JobRequests.{LeavesCheck, LeavesNotesFor, LeavesPagesFor, LeavesPictureFor, LeavesPin}
-use Rattle.file_requests.specs.JobRequests.{LeavesPlain, LeavesRendered}
+use Rattle.file_requests.specs.JobRequests.{LeavesPlain, LeavesRendered, LeavesSurveyOf}
 use Rattle.file_requests.specs.ProfileRequests.{LeavesAnsweredFor, LeavesLintFor, LeavesSheetFor, LeavesShownFor}
 
--- what these texts say of a code, or all of it; of a code that is unknown standard error tells
+-- what these texts or the table of commands say of a code, or all of it; of a code that is unknown standard error tells
 pub record LeavesExplanation (texts : List (List ℕ)) (code : Option (List ℕ)) (status : Status)
     (out out' err err' : OutletState) : Type 0 where
-  pub text : IsFalse (is_unknown texts code) → Writes out out' (explanation texts code)
-  pub untouched : IsTrue (is_unknown texts code) → out' ≡ out
-  pub status_is : status ≡ end_of_explain (is_unknown texts code) out'.failed
-  pub complaint : IsTrue (is_unknown texts code) → Writes err err' (complaint code)
-  pub quiet : IsFalse (is_unknown texts code) → err' ≡ err
+  pub text : IsFalse (is_unheard texts table code) → Writes out out' (told texts table code)
+  pub untouched : IsTrue (is_unheard texts table code) → out' ≡ out
+  pub status_is : status ≡ end_of_explain (is_unheard texts table code) out'.failed
+  pub complaint : IsTrue (is_unheard texts table code) → Writes err err' (complaint code)
+  pub quiet : IsFalse (is_unheard texts table code) → err' ≡ err
 
 -- what a request comes to, on standard output, on standard error and in the history of files;
 -- an explanation is one of these texts
@@ -35,6 +37,8 @@ Fulfils texts (requests.Check job profiles) status used used' out out' err err' 
     status used used' out out' × (err' ≡ err)
 Fulfils texts (requests.CheckMany words) status used used' out out' err err' =
     LeavesChecks (asking texts words) status used used' out out' err err'
+Fulfils texts (requests.Survey jobs form) status used used' out out' err err' =
+    LeavesSurveyOf (map (λ job. job.now) jobs.items) form status used used' out out' err err'
 Fulfils texts (requests.List job) status used used' out out' err err' =
     LeavesRendered job.now list_rendering status used used' out out' × (err' ≡ err)
 Fulfils texts (requests.Pages job profile) status used used' out out' err err' =

@@ -3,7 +3,7 @@ ghost use Rattle.std.specs.Prelude.{IsFalse, map};
 ghost use Rattle.requests.specs.Words.{NamesSome};
 ghost use Rattle.pclcheck.specs.Requests.{Fulfils};
 
-use file_requests::job_texts::{check, list, notes, pages, picture, pin, plain};
+use file_requests::job_texts::{check, list, notes, pages, picture, pin, plain, survey_files};
 use file_requests::profiles::{from_pjl, lint, sheet, show};
 use many_requests::check_asked;
 use meanings::EXPLANATIONS;
@@ -36,6 +36,9 @@ pub fn fulfil<R: Files + Input + Print + AllocGlobal, O: Outlet, E: Outlet>(
     match request {
         Request::Check { job, profiles } => check(rt, job, profiles.as_slice(), used, stdout),
         Request::CheckMany(words) => check_asked(rt, words, used, stdout, stderr),
+        Request::Survey { jobs, form } => {
+            survey_files(rt, jobs.as_slice(), *form, used, stdout, stderr)
+        }
         Request::List { job } => list(rt, job, used, stdout),
         Request::Pages { job, profile } => pages(rt, job, profile, used, stdout),
         Request::Picture {

@@ -2,6 +2,7 @@
 //!
 //! No text means that there is nothing to tell, or no memory for it.
 
+use crate::held_lines::sentence_of_line;
 use device_profile::Cause;
 use job_reports::{
     is_pipe, push_cause_phrase, push_named_first, push_refused_profile_sentence,
@@ -22,6 +23,15 @@ const FRONT_OF_PROFILE: &[u8] = b"pclprofile ";
 
 /// The name of a file that is made and removed, to learn why none can be made in a folder.
 const TRIED: &str = ".pclcheck-tried.out";
+
+/// Tells what a request would have told meanwhile, as far as it can be written: a line on what it
+/// names by a sentence.
+pub fn tell_held<E: Outlet>(alloc: Global, request: &Request<'_>, held: &[u8], stderr: &mut E) {
+    match sentence_of_line(alloc, request, held) {
+        Some(text) => write(text.as_slice(), stderr),
+        None => write(held, stderr),
+    }
+}
 
 /// Tells how a request ended, as far as it can be written. A file that could not be read is looked
 /// for among those of the request, by opening them again; why one could not be written is learnt by
@@ -248,8 +258,14 @@ fn refused_sentence(
 /// What stands behind the name of a profile that is a job or a fleet of a check of many jobs.
 const FOR_PRINTERS: &[u8] = b"this is a profile, and -p takes it\n";
 
-/// The jobs and the fleets of a request that are profiles, and the printers that are fleets, by
-/// their names and their first bytes.
+/// What stands behind the name of a printer that is a job.
+const NO_PRINTER: &[u8] = b"this is a job, where a profile has to stand; -p takes a profile\n";
+
+/// What stands behind the name of a fleet that is a job.
+const NO_FLEET: &[u8] = b"this is a job, and no fleet; -f takes a text with a profile a line\n";
+
+/// The jobs and the fleets of a request that are profiles, the printers that are fleets, and the
+/// printers and the fleets that are jobs, by their names and their first bytes.
 fn hint<R: Files + AllocGlobal>(rt: &R, request: &Request<'_>) -> Option<Vec<u8>> {
     let mut text = Vec::new(rt.alloc());
     match request {
@@ -257,6 +273,8 @@ fn hint<R: Files + AllocGlobal>(rt: &R, request: &Request<'_>) -> Option<Vec<u8>
             push_profiles(rt, &mut text, many.jobs.as_slice())?;
             push_profiles_of(rt, &mut text, many.fleets.as_slice())?;
             push_fleets(rt, &mut text, many.printers.as_slice())?;
+            push_jobs(rt, &mut text, many.printers.as_slice(), NO_PRINTER)?;
+            push_jobs(rt, &mut text, many.fleets.as_slice(), NO_FLEET)?;
         }
         _ => {
             let why = b"this is a profile, and JOB stands before PROFILE\n";
@@ -302,6 +320,22 @@ fn push_fleets<R: Files + AllocGlobal>(
     Some(())
 }
 
+/// Appends which of these words are jobs.
+fn push_jobs<R: Files + AllocGlobal>(
+    rt: &R,
+    text: &mut Vec<u8>,
+    words: &[&str],
+    why: &[u8],
+) -> Option<()> {
+    for word in words {
+        if is_job(rt, word) {
+            push_named_first(rt.alloc(), text, word.as_bytes()).ok()?;
+            text.extend_from_slice(why).ok()?;
+        }
+    }
+    Some(())
+}
+
 /// Appends that a job is a profile, where it is one.
 fn push_profile<R: Files + AllocGlobal>(
     rt: &R,
@@ -332,12 +366,29 @@ fn begins_as_profile<R: Files + AllocGlobal>(rt: &R, word: &[u8], ending: &str) 
     let Ok(path) = str::from_utf8(word) else {
         return None;
     };
-    if !path.ends_with(ending) || is_input(word) || is_pipe(rt, word) {
+    if !path.ends_with(ending) || is_input(word) {
+        return None;
+    }
+    let front = front_at(rt, path, FRONT_OF_PROFILE.len())?;
+    Some(front.as_slice() == FRONT_OF_PROFILE)
+}
+
+/// Whether the file of a word begins by ESC, as jobs mostly do.
+fn is_job<R: Files + AllocGlobal>(rt: &R, word: &str) -> bool {
+    if is_sample(word) {
+        return false;
+    }
+    match front_at(rt, word, 1) {
+        Some(front) => front.as_slice().starts_with(b"\x1b"),
+        None => false,
+    }
+}
+
+/// The first bytes of a file that can be read again; nothing where it cannot be read.
+fn front_at<R: Files + AllocGlobal>(rt: &R, path: &str, most: usize) -> Option<Vec<u8>> {
+    if is_pipe(rt, path.as_bytes()) {
         return None;
     }
     let mut file = FileSource::new(rt, path);
-    match read_front(rt.alloc(), &mut file, FRONT_OF_PROFILE.len()) {
-        Ok(front) => Some(front.as_slice() == FRONT_OF_PROFILE),
-        Err(_) => None,
-    }
+    read_front(rt.alloc(), &mut file, most).ok()
 }

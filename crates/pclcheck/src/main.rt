@@ -2,15 +2,19 @@
 #![tactic(auto)]
 
 mod by_request;
+mod held_lines;
 mod in_words;
 
 ghost use Rattle.std.specs.Prelude.{IsFalse};
+ghost use Rattle.requests.specs.Words.{NamesSome};
 
 use crate::by_request::fulfil;
-use crate::in_words::tell_in_words;
+use crate::in_words::{tell_held, tell_in_words};
 use command_line::{Word, form_of, read_words};
-use requests::{Form, Status, tell};
+use named_inputs::KeptText;
+use requests::{Form, Request, Status, tell};
 use std::alloc::{AllocError, Global};
+use std::convert::AsStr;
 use std::env::{FillError, VarError};
 use std::io::{Input, Print};
 use std::os::fd::{AsRawFd, IntoRawFd, RawFd};
@@ -67,6 +71,9 @@ fn run<R: Env + Files + Input + Print + AllocGlobal, O: Outlet, E: Outlet>(
     };
     match usual {
         Some(usual) => fulfil_words(rt, words.as_slice(), usual, stdout, stderr),
+        None if ask_for_form(words.as_slice()) => {
+            fulfil_words(rt, words.as_slice(), Form::Line, stdout, stderr)
+        }
         None => refuse_work(rt.alloc(), words.as_slice(), stdout, stderr),
     }
 }
@@ -122,6 +129,16 @@ fn form_or_line(word: &str) -> Option<Form> {
     form_of(word)
 }
 
+/// Whether words have an option for the form, so that the environment is not looked at.
+fn ask_for_form(words: &[Word]) -> bool {
+    for word in words {
+        if word.as_str().starts_with("--format") {
+            return true;
+        }
+    }
+    false
+}
+
 /// Refuses the form of the environment, unless the words ask for help, or are wrong themselves.
 fn refuse_work<O: Outlet, E: Outlet>(
     alloc: Global,
@@ -142,7 +159,7 @@ fn refuse_work<O: Outlet, E: Outlet>(
 fn refuse_form<E: Outlet>(stderr: &mut E) -> Status
     requires { IsFalse (E.state stderr.old).failed }
 {
-    let text = b"error: PCLCHECK_FORMAT is none of line, words and json\n";
+    let text = b"error: PCLCHECK_FORMAT is none of line, words, json and html\n";
     match write_text(stderr, text) {
         Ok(()) => Status::Usage,
         Err(error) => Status::Stopped(error),
@@ -164,12 +181,31 @@ fn fulfil_words<R: Files + Input + Print + AllocGlobal, O: Outlet, E: Outlet>(
         Ok(asked) => asked,
         Err(status) => return told(status, stderr),
     };
-    let mut used = FilesUsed::new();
-    let status = fulfil(rt, &asked.request, &mut used, stdout, stderr);
     match asked.form {
-        Form::Words => tell_in_words(rt, &asked.request, status, stdout.has_failed(), stderr),
-        Form::Line | Form::Json => tell(status, stderr),
+        Form::Words => fulfil_in_words(rt, &asked.request, stdout, stderr),
+        Form::Line | Form::Json | Form::Html => {
+            let mut used = FilesUsed::new();
+            let status = fulfil(rt, &asked.request, &mut used, stdout, stderr);
+            told(status, stderr)
+        }
     }
+}
+
+/// Does what is asked for. What it tells standard error meanwhile is held, and told at its end.
+fn fulfil_in_words<R: Files + Input + Print + AllocGlobal, O: Outlet, E: Outlet>(
+    rt: &R,
+    request: &Request<'_>,
+    stdout: &mut O,
+    stderr: &mut E,
+) -> Status
+    requires stdout { IsFalse (O.state stdout.old).failed }
+    requires some { NamesSome request.now }
+{
+    let mut used = FilesUsed::new();
+    let mut held = KeptText::new(rt.alloc());
+    let status = fulfil(rt, request, &mut used, stdout, &mut held);
+    tell_held(rt.alloc(), request, held.into_bytes().as_slice(), stderr);
+    tell_in_words(rt, request, status, stdout.has_failed(), stderr);
     status
 }
 

@@ -1,5 +1,5 @@
 -- What sentences say of a failure.
-use Rattle.std.proofs.Common.{◌≡◌, ℕ, List, [], ◌∷◌, ◌++◌, Option, None, Some, refl, ap, sym, ◌∙◌}
+use Rattle.std.proofs.Common.{◌≡◌, ℕ, List, [], ◌∷◌, ◌++◌, Option, None, Some, drop, refl, ap, sym, ◌∙◌}
 use Rattle.std.specs.Prelude.{codes, decimal, flat_map}
 use Rattle.pcl_items.specs.declared.pcl.command.DataCommand.{DataCommand}
 use Rattle.pcl_items.specs.declared.item.SimpleItem.{SimpleItem}
@@ -17,7 +17,8 @@ use Rattle.preflight.specs.Culprit.{IsCulprit}
 use Rattle.job_reports.specs.CommandWords.{code_words, command_words}
 use Rattle.job_reports.specs.JobSentences.{fails_where}
 use Rattle.job_reports.specs.LeftOut.{left_out_in, left_out_of}
-use Rattle.picture_command.specs.PageSearch.{at_item, item_words, spot_where}
+use Rattle.job_reports.specs.RefusedNames.{value_key}
+use Rattle.picture_command.specs.PageSearch.{at_item, item_value, item_words, spot_where}
 
 simple_words : (item : SimpleItem) → item_words (simple_view item) ≡ flat_map code_words (canon (simple_view item))
 simple_words simple.CarriageReturn = refl
@@ -56,6 +57,30 @@ culprit_leaves (culprits.Simple plain) item is = sym (ap left_out_in is)
 culprit_leaves (culprits.WithData command count) item is = sym (ap left_out_in is.1)
 culprit_leaves culprits.Line item is = sym (ap left_out_in is.1)
 
+simple_value : (item : SimpleItem) → item_value (simple_view item) ≡ Some (drop 1 (canon (simple_view item)))
+simple_value simple.CarriageReturn = refl
+simple_value simple.LineFeed = refl
+simple_value simple.FormFeed = refl
+simple_value simple.Reset = refl
+simple_value simple.ClearMargins = refl
+simple_value simple.HalfLineFeed = refl
+simple_value (simple.Parameterized command number) = refl
+simple_value (simple.SymbolSet letter number) = refl
+simple_value simple.DefaultFont = refl
+simple_value (simple.EnterFrame handover) = refl
+simple_value (simple.LeaveFrame handover) = refl
+simple_value simple.Initialize = refl
+simple_value (simple.Set setting magnitude) = refl
+simple_value (simple.Move motion to) = refl
+simple_value simple.ExitLanguage = refl
+
+-- and gives the command with its value the same key
+culprit_value : (culprit : Culprit) (item : Entry) → IsCulprit culprit item → value_key (Some culprit) ≡ item_value item
+culprit_value (culprits.Text code) item is = sym (ap item_value is)
+culprit_value (culprits.Simple plain) item is = sym (simple_value plain) ∙ sym (ap item_value is)
+culprit_value (culprits.WithData command count) item is = sym (ap item_value is.1)
+culprit_value culprits.Line item is = sym (ap item_value is.1)
+
 pub culprit_at_item : (culprit : Culprit) (item : Entry) → IsCulprit culprit item → (printer : Printer) (s : State)
     (cursor : Option SheetSpot) → cursor ≡ spot_where (is_one_step item) printer s →
     fails_where None cursor (Some culprit) ≡ at_item printer s item
@@ -63,5 +88,6 @@ culprit_at_item culprit item is printer s cursor stood = λ i. record {
   page = None;
   cursor = stood i;
   words = codes ", " ++ culprit_words culprit item is i;
+  value = culprit_value culprit item is i;
   left_out = culprit_leaves culprit item is i;
 }

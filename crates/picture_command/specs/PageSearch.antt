@@ -1,6 +1,6 @@
 -- What is told of the pages of a job before they are drawn: whether the job fails on them, and whether it has them.
-use Rattle.std.specs.Prelude.{ℕ, ◌+◌, false, List, [], ◌∷◌, ◌++◌, codes, decimal, flat_map, length, get_or, None, Some}
-use Rattle.std.specs.Prelude.{Ok, if◌then◌else◌, Bool, Option, is_none}
+use Rattle.std.specs.Prelude.{ℕ, ◌+◌, false, List, [], ◌∷◌, ◌++◌, codes, decimal, drop, flat_map, length, get_or}
+use Rattle.std.specs.Prelude.{None, Ok, Option, Some, if◌then◌else◌, Bool, is_none}
 use Rattle.pcl_items.specs.declared.fault.LexCause.{LexCause}
 use Rattle.pcl_items.specs.Spellings.Canon.{canon}
 use Rattle.pcl_items.specs.Escapes.Commands.{introducer_of, character_of, data_group_of, data_letter_of}
@@ -60,12 +60,20 @@ spot_of printer s =
 abbrev pub spot_where : Bool → Printer → State → Option SheetSpot
 spot_where one_step printer s = if one_step then spot_of printer s else None
 
+-- the key of a command with its value: the item's spelling without ESC, where it has no data
+abbrev pub item_value : Entry → Option (List ℕ)
+item_value (Text code) = None
+item_value (WithData command bytes) = None
+item_value (PjlLine line) = None
+item_value item = Some (drop 1 (canon item))
+
 -- where a failure at an item stands, whatever its page
 abbrev pub at_item : Printer → State → Entry → FailsAt
 at_item printer s item = record {
   page = None;
   cursor = spot_where (is_one_step item) printer s;
   words = codes ", " ++ item_words item;
+  value = item_value item;
   left_out = left_out_in item;
 }
 

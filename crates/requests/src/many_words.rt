@@ -9,6 +9,8 @@ pub enum Form {
     Words,
     /// An object of JSON on a line.
     Json,
+    /// A row of a document of HTML.
+    Html,
 }
 
 /// The jobs at paths, or under the names that a file has, each for all printers that words and the

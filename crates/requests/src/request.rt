@@ -1,7 +1,7 @@
 //! What is asked for.
 
 use crate::choices::Choice;
-use crate::many_words::ManyWords;
+use crate::many_words::{Form, ManyWords};
 use crate::new_profile::NewProfile;
 use crate::selection::Selection;
 
@@ -18,6 +18,11 @@ pub enum Request<'a> {
     /// The items of the job at a path.
     List {
         job: &'a str,
+    },
+    /// What the language refuses of the jobs at paths.
+    Survey {
+        jobs: Vec<&'a str>,
+        form: Form,
     },
     /// The pages of the job at a path, on the printer that a word names.
     Pages {

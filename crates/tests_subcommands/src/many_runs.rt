@@ -82,6 +82,7 @@ pub enum Form {
     Line,
     Words,
     Json,
+    Html,
 }
 
 /// How jobs are checked, and how it is told what came of them.
@@ -139,12 +140,14 @@ impl Manner {
             Form::Line => Format::Line,
             Form::Words => Format::Words,
             Form::Json => Format::Json(alloc),
+            Form::Html => Format::Html,
         };
         Telling {
             format,
             explanations: if self.explains { &EXPLANATIONS } else { &[] },
             exit_zero: false,
             passes_unchecked: false,
+            read_once: &[],
         }
     }
 }

@@ -1,7 +1,7 @@
 //! Checks of many jobs that stop:
 //! each write of standard output fails in turn, and each request for memory.
 
-use crate::many_runs::{EACH, Form, Manner, Run, run_of};
+use crate::many_runs::{EACH, Form, Manner, Run, TOGETHER, run_of};
 use std::process::Abort;
 use std::test::Fail;
 use testing_checks::Change;
@@ -36,6 +36,28 @@ const OBJECTS: Run = (
     JOBS,
     Manner {
         form: Form::Json,
+        ..EXPLAINED
+    },
+);
+
+/// A document of a job that cannot be read.
+const DOCUMENT: Run = (
+    &["b", "export"],
+    &[b"cut"],
+    Manner {
+        form: Form::Html,
+        ..TOGETHER
+    },
+);
+
+/// Rows of a job that fails, of one that passes, with its notes and pictures, and of one that
+/// cannot be read.
+const ROWS: Run = (
+    &["b", "export"],
+    &[b"plex", b"turned", b"cut"],
+    Manner {
+        form: Form::Html,
+        tells_notes: true,
         ..EXPLAINED
     },
 );
@@ -107,6 +129,11 @@ fn each_write_of_a_sentence_or_an_object_fails_in_turn(rt: HostRuntime) -> Resul
     check_writes(&rt, &[(SENTENCES, 100), (OBJECTS, 100)])
 }
 
+#[test]
+fn each_write_of_a_document_fails_in_turn(rt: HostRuntime) -> Result<(), Fail> {
+    check_writes(&rt, &[(DOCUMENT, 500)])
+}
+
 /// Whether these are whole lines.
 fn are_lines(text: &[u8]) -> bool {
     text.is_empty() || text.ends_with(b"\n")
@@ -139,5 +166,12 @@ fn each_request_for_memory_is_refused_in_turn(rt: HostRuntime) -> Result<(), Fai
         let requests = requests_of(&rt, run)?;
         assert!(rt; requests >= least, "{requests} requests");
     }
+    Ok(())
+}
+
+#[test]
+fn each_request_of_a_document_is_refused_in_turn(rt: HostRuntime) -> Result<(), Fail> {
+    let requests = requests_of(&rt, ROWS)?;
+    assert!(rt; requests >= 60, "{requests} requests");
     Ok(())
 }

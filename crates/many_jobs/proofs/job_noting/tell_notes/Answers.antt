@@ -2,7 +2,8 @@ use Rattle.std.proofs.Common.{subst}
 use Rattle.streams.specs.Source.{SourceState}
 use Rattle.many_jobs.specs.Asked.{told_by}
 use Rattle.many_jobs.specs.JobChecks.{work}
-use Rattle.many_jobs.specs.JobNoting.{AreRightNotes, kept_notes}
+use Rattle.job_rows.specs.Kept.{kept_text}
+use Rattle.many_jobs.specs.JobNoting.{AreRightNotes}
 use Rattle.many_jobs.specs.NoteReports.{subject_of, told_note}
 use Rattle.many_jobs.proofs.JobNoting.{notes_cut, notes_told}
 use Rattle.many_jobs.proofs.job_noting.tell_notes.Goals as goal
@@ -12,7 +13,7 @@ returns-clause-told g c =
     let telling = told_by c.args.telling.now in
     let name = c.args.name.now in
     let after = g.J.Job.Source.state c.read_notes-notes.new.job in
-    let notes = kept_notes (λ text. text.items) c.read_notes-notes.result in
+    let notes = kept_text (λ text. text.items) c.read_notes-notes.result in
     let right =
     subst
     (λ (start : SourceState). AreRightNotes (told_note telling (subject_of c.args.group.now name)) c.args.printer.now start after notes)
@@ -27,7 +28,7 @@ returns-clause-cut g c =
     let telling = told_by c.args.telling.now in
     let name = c.args.name.now in
     let after = g.J.Job.Source.state c.read_notes-notes.new.job in
-    let notes = kept_notes (λ text. text.items) c.read_notes-notes.result in
+    let notes = kept_text (λ text. text.items) c.read_notes-notes.result in
     let right =
     subst
     (λ (start : SourceState). AreRightNotes (told_note telling (subject_of c.args.group.now name)) c.args.printer.now start after notes)

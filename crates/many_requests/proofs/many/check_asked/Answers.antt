@@ -23,10 +23,10 @@ check_found-requires-clause-some g c =
     let each =
     subst (λ fleets. length (map (λ word. word.now) fleets) ≤ length (map string_bytes c.in-Ok.fleets.items)) c.as_slice.ensures.value
     (fleets_count text_named _ _ _ _ c.in-Ok.ensures.read) in
-    let printers = ap (map (λ word. word.now)) c.as_slice-7.ensures.value ∙ c.in-Ok-all_printers.ensures
+    let printers = ap (map (λ word. word.now)) c.as_slice-8.ensures.value ∙ c.in-Ok-all_printers.ensures
     ∙ ap (λ all. map (λ word. word.now) all ++ map string_bytes c.as_slice-3.result.now) c.as_slice-2.ensures.value
     ∙ ap (λ fleets. map (λ word. word.now) words.printers.items ++ map string_bytes fleets) c.as_slice-3.ensures.value in
-    some_printer words.printers.items words.fleets.items c.in-Ok.fleets.items string_bytes c.as_slice-7.result.now
+    some_printer words.printers.items words.fleets.items c.in-Ok.fleets.items string_bytes c.as_slice-8.result.now
     c.requires.some each printers
 
 pub returns : goal.returns
@@ -44,8 +44,8 @@ returns g c =
     c.read_fleets.new.texts.has_failed c.end.ensures c.new-texts.ensures.named c.in-Ok.ensures.asked
     (ap (map (λ word. word.now)) c.as_slice.ensures.value) c.new-texts.ensures.given reads.given c.in-Ok.ensures.working in
     let asked : Asked = record {
-      jobs = map (λ name. name.now) c.as_slice-6.result.now;
-      printers = map (λ word. word.now) c.as_slice-7.result.now;
+      jobs = map (λ name. name.now) c.as_slice-7.result.now;
+      printers = map (λ word. word.now) c.as_slice-8.result.now;
       most_items = words.most_items;
       is_each = words.is_each;
       tells_notes = words.tells_notes;
@@ -57,10 +57,10 @@ returns g c =
       record {
         names = c.in-Ok-read_names.names.items;
         fleets = reads.fleets;
-        jobs = ap (map (λ name. name.now)) c.as_slice-6.ensures.value ∙ c.in-Ok-all_jobs.ensures
+        jobs = ap (map (λ name. name.now)) c.as_slice-7.ensures.value ∙ c.in-Ok-all_jobs.ensures
             ∙ ap (λ all. map (λ word. word.now) all ++ names_in c.as_slice-5.result.now) c.as_slice-4.ensures.value
             ∙ ap (λ names. map (λ word. word.now) words.jobs.items ++ names_in names) c.as_slice-5.ensures.value;
-        printers = ap (map (λ word. word.now)) c.as_slice-7.ensures.value ∙ c.in-Ok-all_printers.ensures
+        printers = ap (map (λ word. word.now)) c.as_slice-8.ensures.value ∙ c.in-Ok-all_printers.ensures
             ∙ ap (λ all. map (λ word. word.now) all ++ map string_bytes c.as_slice-3.result.now) c.as_slice-2.ensures.value
             ∙ ap (λ fleets. map (λ word. word.now) words.printers.items ++ map string_bytes fleets) c.as_slice-3.ensures.value
             ∙ ap (λ (of_fleets : List (List ℕ)). map (λ word. word.now) words.printers.items ++ of_fleets) reads.words_are;
@@ -85,5 +85,5 @@ returns g c =
           (λ names. LeavesFound words.allows_empty (option_map (λ word. word.now) words.names_from) names asked c.check_found.result
           c.read_names.new.used c.check_found.new.used (g.O.Outlet.state c.args.stdout.now) (g.O.Outlet.state c.check_found.new.stdout)
           (g.E.Outlet.state c.read_names.new.stderr) (g.E.Outlet.state c.check_found.new.stderr))
-          c.as_slice-8.ensures.value c.check_found.ensures),
+          c.as_slice-10.ensures.value c.check_found.ensures),
     )

@@ -1,0 +1,2 @@
+mod NamedFacts
+pub mod TableLaws

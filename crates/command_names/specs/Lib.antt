@@ -1,0 +1,2 @@
+pub mod CommandNames
+pub mod Language

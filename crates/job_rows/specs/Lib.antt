@@ -1,0 +1,7 @@
+pub mod Bodies
+pub mod Document
+pub mod Escapes
+pub mod Heads
+pub mod Kept
+pub mod Pictures
+pub mod Rows

@@ -1,0 +1,29 @@
+-- The picture of a page, in a job's row.
+use Rattle.std.specs.Prelude.{ℕ, ◌==◌, List, [], ◌++◌, codes, length, if◌then◌else◌, Result, Ok, Err}
+use Rattle.streams.specs.declared.error.Error.{Error}
+use Rattle.verdict.specs.declared.verdict.Verdict.{Verdict}
+use Rattle.verdict.specs.declared.verdict.Verdict.TheVariants.{Pass, Fail}
+use Rattle.job_rows.specs.Escapes.{address_text}
+
+-- which page it is
+abbrev pub caption : Result Verdict Error → List ℕ
+caption (Ok (Pass pages marks)) = codes "The first page"
+caption (Ok (Fail place profile reason)) = codes "The page at which the job fails"
+caption (Err error) = []
+
+-- A picture of its own, so that nothing in it reaches the document: an address that has all of it.
+-- It is taken apart only once it is looked at.
+unfoldable pub figure : Result Verdict Error → List ℕ → List ℕ
+figure answer picture =
+    codes "<figure>\n<figcaption>" ++ caption answer
+    ++ codes ", from the first settings of the panel</figcaption>\n<img loading=\"lazy\" alt=\"\" src=\"data:image/svg+xml,"
+    ++ address_text picture ++ codes "\">\n</figure>\n"
+
+-- a large picture is left to the command that draws it
+unfoldable pub too_large : List ℕ
+too_large =
+    codes "<p>The picture of the page is too large for this document; the command picture of pclcheck draws it.</p>\n"
+
+-- where the job has no such page, nothing
+abbrev pub picture_part : Result Verdict Error → List ℕ → List ℕ
+picture_part answer picture = if length picture == 0 then [] else figure answer picture

@@ -1,0 +1,64 @@
+//! The picture of a page, in a job's row.
+ghost use Rattle.std.specs.Prelude.{◌≡◌, ◌++◌, OnOk};
+ghost use Rattle.job_rows.specs.Pictures.{caption, figure, picture_part, too_large};
+
+use crate::escapes::push_address;
+use preflight::Verdict;
+use std::alloc::{AllocError, Allocator};
+use streams::Error;
+
+/// Appends a picture, unless it is empty, since the job has no such page.
+pub(crate) fn push_picture<A: Allocator>(
+    text: &mut Vec<u8, A>,
+    answer: Result<Verdict, Error>,
+    picture: &[u8],
+) -> Result<(), AllocError>
+    ensures { OnOk result (text.new.items ≡ text.old.items ++ picture_part answer picture.now) }
+{
+    if picture.is_empty() {
+        return Ok(());
+    }
+    push_figure(text, answer, picture)
+}
+
+/// Appends that a picture is left to the command that draws it.
+#[tactic(auto, unfolding(crate::specs::Pictures::too_large))]
+pub(crate) fn push_too_large<A: Allocator>(text: &mut Vec<u8, A>) -> Result<(), AllocError>
+    ensures { OnOk result (text.new.items ≡ text.old.items ++ too_large) }
+{
+    text.extend_from_slice(
+        b"<p>The picture of the page is too large for this document; \
+        the command picture of pclcheck draws it.</p>\n",
+    )
+}
+
+/// Appends a picture with its caption. It is a picture of its own, so that nothing in it reaches
+/// the document, and that a browser takes it apart only once it is looked at.
+#[tactic(auto, unfolding(crate::specs::Pictures::figure))]
+fn push_figure<A: Allocator>(
+    text: &mut Vec<u8, A>,
+    answer: Result<Verdict, Error>,
+    picture: &[u8],
+) -> Result<(), AllocError>
+    ensures { OnOk result (text.new.items ≡ text.old.items ++ figure answer picture.now) }
+{
+    text.extend_from_slice(b"<figure>\n<figcaption>")?;
+    text.extend_from_slice(caption(answer))?;
+    text.extend_from_slice(
+        b", from the first settings of the panel</figcaption>\n\
+        <img loading=\"lazy\" alt=\"\" src=\"data:image/svg+xml,",
+    )?;
+    push_address(text, picture)?;
+    text.extend_from_slice(b"\">\n</figure>\n")
+}
+
+/// Which page it is.
+fn caption(answer: Result<Verdict, Error>) -> &'static [u8]
+    ensures { result.now ≡ caption answer }
+{
+    match answer {
+        Ok(Verdict::Pass { .. }) => b"The first page",
+        Ok(Verdict::Fail { .. }) => b"The page at which the job fails",
+        Err(_) => b"",
+    }
+}

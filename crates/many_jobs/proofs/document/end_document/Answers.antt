@@ -1,0 +1,24 @@
+use Rattle.std.proofs.Common.{◌∙◌, IfErr, List, OnOk, subst, sym, ℕ}
+use Rattle.streams.specs.Outlet.{Adds}
+use Rattle.many_jobs.specs.Document.{CutsText}
+use Rattle.many_jobs.proofs.Documents.{end_is, no_end}
+use Rattle.many_jobs.proofs.document.end_document.Goals as goal
+
+pub returns-then-is_html-clause-told : goal.returns-then-is_html-clause-told
+returns-then-is_html-clause-told g c =
+    subst
+    (λ (text : List ℕ).
+    OnOk c.write_end.result (Adds (g.O.Outlet.state c.args.stdout.now) (g.O.Outlet.state c.write_end.new.stdout) text))
+    (end_is c.args.format (sym c.is_html.ensures ∙ c.if-is_html.true)) c.write_end.ensures.told
+
+pub returns-then-is_html-clause-cut : goal.returns-then-is_html-clause-cut
+returns-then-is_html-clause-cut g c =
+    subst
+    (λ (text : List ℕ).
+    IfErr c.write_end.result
+    (λ error. CutsText error text (g.O.Outlet.state c.args.stdout.now) (g.O.Outlet.state c.write_end.new.stdout)))
+    (end_is c.args.format (sym c.is_html.ensures ∙ c.if-is_html.true)) c.write_end.ensures.cut
+
+pub returns-clause-told : goal.returns-clause-told
+returns-clause-told g c =
+    no_end c.args.format (g.O.Outlet.state c.args.stdout.now) (sym c.is_html.ensures ∙ c.if-is_html.false)

@@ -1,0 +1,13 @@
+pub mod DataCommands
+pub mod Refusals
+pub mod Passing
+pub mod Turns
+pub mod Survey
+pub mod Tally
+pub mod Surveys
+pub mod Laws
+pub mod Carriers
+pub mod Names
+pub mod Lines
+pub mod Objects
+pub mod Command
