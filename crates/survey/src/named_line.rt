@@ -97,7 +97,7 @@ impl NamedLine {
     }
 
     /// With a further byte.
-    pub fn with(self, byte: u8) -> NamedLine
+    pub fn with_byte(self, byte: u8) -> NamedLine
         ensures { result ≡ line_on self byte }
     {
         if self.is_over {

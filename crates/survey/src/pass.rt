@@ -430,7 +430,7 @@ fn in_line(passing: Passing, matched: u8, line: NamedLine, byte: u8) -> Turn
         b'\n' => ends(passing, Spelled::Line(line.number()), behind_line(matched)),
         _ => {
             let matched = line_matched(matched, byte);
-            goes_on(Part::Line(passing, matched, line.with(byte)))
+            goes_on(Part::Line(passing, matched, line.with_byte(byte)))
         }
     }
 }
