@@ -39,11 +39,21 @@ NUMBER = re.compile(rb"[-+.0-9]*")
 NUMBERS = re.compile(rb'(?:[^A-Za-z;\x1b"]|"[^"\x1b]*(?:"|(?=\x1b)|\Z))*')
 LABEL = re.compile(rb"[^\x03\x1b]*(\x03?)")
 PACKED = re.compile(rb"[^;\x1b]*(;?)")
-# A combined sequence up to a later command, and a pair of coordinates with the letters or without.
+# Later commands of a combined sequence, such a sequence up to one, and a pair of coordinates with
+# the letters or without.
+INNER = re.compile(rb"(?:[-+.0-9]*[`-~])*")
 LATER = re.compile(rb"\x1b([&*(][`-~])(?:[-+.0-9]*[`-~])+\Z")
 PAIR = re.compile(rb"(?:[A-Za-z]{2})?[\t\n\r ]*[-+]?[0-9]*(?:\.[0-9]*)?[\t\n\r ]*,?[\t\n\r ]*"
                   rb"[-+]?[0-9]*(?:\.[0-9]*)?")
 ENTERS = re.compile(rb" +ENTER +LANGUAGE", re.IGNORECASE)
+# The words of lines that are told by them, of which the first that a line has counts.
+LANGUAGES = ("PCL3GUI", "PCLXL", "POSTSCRIPT")
+WORDS = [f"ENTER LANGUAGE={language}" for language in LANGUAGES] + [
+    "COMMENT", "DEFAULT", "DINQUIRE", "DMCMD", "DMINFO", "ECHO", "ENTER", "EOJ", "FSAPPEND",
+    "FSDELETE", "FSDIRLIST", "FSDOWNLOAD", "FSINIT", "FSMKDIR", "FSQUERY", "FSUPLOAD", "INFO",
+    "INITIALIZE", "INQUIRE", "JOB", "OPMSG", "RDYMSG", "RESET", "SET", "STMSG", "USTATUS",
+    "USTATUSOFF"]
+BLANK = r"[\t\r ]"
 EXIT = b"\x1b%-12345X"
 SECONDS = 60
 
@@ -108,7 +118,7 @@ def behind(job: bytes, fault: Fault, lexed: Lexed,
             return behind_numbers(job, place, [Told(place, number, motion)])
         if byte != ESC:
             return behind_instruction(job, place, number)
-    group = None if stand == Stand(place, PCL) else group_before(job, place)
+    group = group_before(job, place, stand)
     if lexed.mode == PCL and group is not None:
         return behind_commands(job, place, place, number, group, PCL)
     if byte == ESC:
@@ -116,9 +126,11 @@ def behind(job: bytes, fault: Fault, lexed: Lexed,
     return [Told(place, number, f"x{byte:02x}")], Stand(place + 1, PCL)
 
 
-def group_before(job: bytes, place: int) -> Optional[str]:
+def group_before(job: bytes, place: int, stand: Stand) -> Optional[str]:
     """The group of the combined sequence of which a later command is due at a place."""
-    head = LATER.search(job, 0, place)
+    if stand.group is not None and INNER.fullmatch(job, stand.at, place):
+        return stand.group
+    head = LATER.search(job, stand.at, place)
     return head[1].decode() if head else None
 
 
@@ -141,9 +153,20 @@ def cut(job: bytes, number: int) -> List[Told]:
     return [Told(len(job), number, "the end of the job")]
 
 
+def line_called(line: bytes) -> str:
+    """A line by its words: blanks count behind a word, and else not."""
+    text = line.decode("latin-1")
+    for words in WORDS:
+        spelled = "".join(f"{BLANK}+" if character == " " else f"{BLANK}*{re.escape(character)}"
+                          for character in f"PJL {words}")
+        if re.match(rf"@{spelled}(?:{BLANK}|\Z)", text, re.IGNORECASE | re.ASCII):
+            return f"@PJL {words}"
+    return "a line of PJL"
+
+
 def behind_line(job, place, number):
-    told = [Told(place, number, "a line of PJL")]
     end = job.find(b"\n", place)
+    told = [Told(place, number, line_called(job[place:] if end < 0 else job[place:end]))]
     if end < 0:
         return told, None
     if not ENTERS.search(job[place + 1:end]):
@@ -224,8 +247,11 @@ def behind_commands(job, place, at, number, group, mode):
         if not 96 <= letter <= 126:
             told.append(Told(place, number, "ESC without an end"))
             return told, Stand(at, home)
+        command = group + chr(letter - 32)
         told.append(Told(place, number, f"ESC {group}#{chr(letter - 32)}"))
-        at += 1
+        at += 1 + (count if command in WITH_DATA else 0)
+        if at > len(job):
+            return told + cut(job, TRUNCATED), None
         if home == PCL and group in GROUPS:
             return told, Stand(at, PCL, group)
         place = at
@@ -294,7 +320,8 @@ PIECES = (b"\x1bE", b"text", b"\r\n", b"\x08", b"\t", b"\x0c", b"\x0e\x0f", b"\x
           b"\x1b&l2a66P", b"\x1b&l66p1O", b"\x1b&d0D", b"\x1b&d@", b"\x1b*c6W\x1b&l1O",
           b"\x1b)s4WABCD",
           b"\x1b(s3b2W\x07\x08", b"\x1b*v3W\x01\x02\x03", b"\x1b&p3X\x00\x01\x02", b"\x1b*b2Wxy",
-          b"\x1b*b2V\x07\x07", b"\x1b*b1m2Wxy", b"\x1b*t300R", b"\x1b*r1A", b"\x1b*rB", b"\x1b(10U",
+          b"\x1b*b2V\x07\x07", b"\x1b*b2v\x07\x1b1vx3Wabc", b"\x1b*b1m3wxyz2v\x07\x07",
+          b"\x1b&n2wxyA", b"\x1b*b1m2Wxy", b"\x1b*t300R", b"\x1b*r1A", b"\x1b*rB", b"\x1b(10U",
           b"\x1b(0@", b"\x1b(7X", b"\x1b)0@", b"\x1bZ", b"\x1bY", b"\x1b7", b"\x1b&z1a2B",
           b"\x1b&b5W12345",
           b"\x1b*b+3W123", b"\x1b*c3.5W123", b"\x1b*c-3W", b"\x1b*c99999W", b"\x1b&l1.123456F",
@@ -303,7 +330,9 @@ PIECES = (b"\x1bE", b"text", b"\r\n", b"\x08", b"\t", b"\x0c", b"\x0e\x0f", b"\x
           b"DT*;", b"PE<=>?;", b'CO"a;b";', b"SM*;", b"P;", b"5;", b"\x1b%0A", b"\x1b%1A",
           b"\x1b%-1B", b"\x1b%2A",
           b"\x1b&l1O", b"\x1b%-12345X", b"@PJL\n", b"@PJL SET COPIES=2\n", b"@PJL COMMENT a\n",
-          b"@PJL ENTER LANGUAGE=PCL\r\n", b"@PJL enter  language = POSTSCRIPT\n", b"%!PS\n",
+          b"@PJL INFO ID\n", b"@PJL USTATUSOFF\n", b"@pjl ustatus\tDEVICE=ON\n", b"@PJL A\n",
+          b"@PJL ENTER LANGUAGE=PCL3GUI\n", b"@PJL ENTER LANGUAGE=PCL\r\n",
+          b"@PJL enter  language = POSTSCRIPT\n", b"%!PS\n",
           b"\x00\x01")
 
 

@@ -20,7 +20,8 @@ const EXPLAIN_EXPLANATION: &str =
 behind it in brackets, as in '12 Unset(Size)'. For ERROR items it is items.
 
 It may also be a command of printers: as a FAIL names it ('&lP', x09, AA), as it is spelled
-('&l#P', HT) or as HP's manual calls it. The code commands lists them, taken or refused.
+('&l#P', HT), as it stands in a job ('&l66p') or as HP's manual calls it. The code commands lists
+them, taken or refused.
 
 Exit status:
   0  an explanation was written, or help was asked for

@@ -2,6 +2,7 @@
 #![tactic(auto)]
 
 mod check_words;
+mod code_words;
 mod commands;
 mod form_words;
 mod many_words;

@@ -18,8 +18,8 @@ Output, a line for each kind of command that is refused, in the order of their f
   Nx in N of N jobs: COMMAND, CALLED, first at byte N of JOB (NUMBER NAME)
   surveyed: jobs=N refused=N others=N; this is no verdict, check gives one
 
-  COMMAND   as the manual spells it, with # for its number: ESC &l#P; xNN for a control code, and
-            AA for an instruction of HP-GL/2
+  COMMAND   as the manual spells it, with # for its number: ESC &l#P; xNN for a control code, AA
+            for an instruction of HP-GL/2, and @PJL SET for a line of the job language
   CALLED    what the manual calls it, where it has a name for it; explain tells more
   NUMBER    the fault and its NAME, of which explain tells more, too
   others    how often something was refused behind 256 kinds, for which there is no line

@@ -4,6 +4,7 @@ ghost use Rattle.command_line.specs.Words.{IsEndOfWords};
 ghost use Rattle.requests.specs.Words.{KeepsWhatItReads, NamesSome};
 
 use crate::check_words::check_request;
+use crate::code_words::code_asked;
 use crate::commands::{CommandName, command, command_asked};
 use crate::form_words::form_asked;
 use crate::panel_words::ChoiceFault;
@@ -217,52 +218,6 @@ fn request_of<'a>(
         return Ok(profile_request(alloc, found)?);
     }
     Ok(text_request(matches))
-}
-
-/// The code that is to be explained, where there is one.
-fn code_asked<'a>(found: &ArgMatches<'a>) -> Option<&'a str> {
-    let word = found.get_str("CODE")?;
-    Some(code_of(word))
-}
-
-/// The code of a word, which may be copied from a line of a check: of `ERROR items` it is a number.
-fn code_of(word: &str) -> &str {
-    if word == "items" {
-        return "36";
-    }
-    without_brackets(without_number(word))
-}
-
-/// The name of a finding without the number that a line of a check has before it; other words as
-/// they are.
-fn without_number(word: &str) -> &str {
-    match word.split_once(' ') {
-        Some((number, name)) if has_digits_alone(number) => name,
-        _ => word,
-    }
-}
-
-/// Whether a text has digits, and nothing else.
-fn has_digits_alone(text: &str) -> bool {
-    !text.is_empty() && text.as_bytes().iter().all(|byte| byte.is_ascii_digit())
-}
-
-/// The name of a finding without what a line of a check has behind it in brackets; other words as
-/// they are.
-fn without_brackets(word: &str) -> &str {
-    match word.split_once('(') {
-        Some((name, rest)) if has_letters_alone(name) && rest.ends_with(')') => name,
-        _ => word,
-    }
-}
-
-/// Whether a text has letters, and nothing else.
-fn has_letters_alone(text: &str) -> bool {
-    !text.is_empty()
-        && text
-            .as_bytes()
-            .iter()
-            .all(|byte| byte.is_ascii_alphabetic())
 }
 
 /// Writes help in short where `-h` asked for it, or else what `clap` answers.

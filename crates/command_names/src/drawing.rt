@@ -12,7 +12,7 @@ pub(crate) fn texts() -> &'static [&'static str]
 }
 
 /// In the order of their keys.
-pub(crate) const TEXTS: [&str; 72] = [
+pub(crate) const TEXTS: [&str; 79] = [
     "\
 *b1M compression method 1, run-length (*b1M): refused
   Why:     its data are decoded by the printer
@@ -52,7 +52,7 @@ pub(crate) const TEXTS: [&str; 72] = [
 ",
     "\
 *bS seed row source (*b#S): refused
-  Why:     its data are decoded by the printer
+  Why:     it chooses the row from which compressed rows differ
   Instead: turn compression off at the driver
   Manual:  \"Raster Graphics\"
 ",
@@ -68,6 +68,12 @@ pub(crate) const TEXTS: [&str; 72] = [
   Reads:   Size, Orientation, Vmi at home
   Finds:   12, 15, 17, 25, 27
   Manual:  \"Raster Graphics\", Transfer Raster Data
+",
+    "\
+*bX padding of a row (*b#X): refused
+  Why:     it is of DeskJet and color printers, which pclcheck does not check
+  Instead: choose a driver for LaserJet printers
+  Manual:  of the DeskJet developer's guides
 ",
     "\
 *bY raster Y offset (*b#Y): taken
@@ -226,7 +232,7 @@ pub(crate) const TEXTS: [&str; 72] = [
 *g configure raster data (*g#W): refused
   Why:     its data are decoded by the printer
   Instead: choose a driver for LaserJet printers
-  Manual:  of the PCL 5 Color manual: Configure Raster Data
+  Manual:  of the DeskJet developer's guides: Configure Raster Data
 ",
     "\
 *i viewing illuminant (*i#W): refused
@@ -265,7 +271,32 @@ pub(crate) const TEXTS: [&str; 72] = [
   Manual:  of the PCL 5 Color manual: Download Dither Matrix
 ",
     "\
-*o driver configuration (*o#W): refused
+*o print quality, or driver configuration (*o): refused
+  Why:     it is of DeskJet and color printers, which pclcheck does not check
+  Instead: choose a driver for LaserJet printers
+  Manual:  of the DeskJet developer's guides, and of the PCL 5 Color manual:
+           Driver Configuration Command
+",
+    "\
+*oD raster graphics depletion (*o#D): refused
+  Why:     it is of DeskJet and color printers, which pclcheck does not check
+  Instead: choose a driver for LaserJet printers
+  Manual:  of the DeskJet developer's guides: Raster Graphics Depletion
+",
+    "\
+*oM print quality (*o#M): refused
+  Why:     it is of DeskJet and color printers, which pclcheck does not check
+  Instead: choose a driver for LaserJet printers
+  Manual:  of the DeskJet developer's guides: Print Quality
+",
+    "\
+*oQ raster graphics shingling (*o#Q): refused
+  Why:     it is of DeskJet and color printers, which pclcheck does not check
+  Instead: choose a driver for LaserJet printers
+  Manual:  of the DeskJet developer's guides: Raster Graphics Shingling
+",
+    "\
+*oW driver configuration (*o#W): refused
   Why:     its data are decoded by the printer
   Instead: choose a driver for LaserJet printers
   Manual:  of the PCL 5 Color manual: Driver Configuration Command
@@ -340,6 +371,12 @@ pub(crate) const TEXTS: [&str; 72] = [
   Manual:  \"Raster Graphics\", Raster Graphics Presentation Mode
 ",
     "\
+*rQ raster graphics quality (*r#Q): refused
+  Why:     it is of DeskJet and color printers, which pclcheck does not check
+  Instead: choose a driver for LaserJet printers
+  Manual:  of the DeskJet developer's guides: Raster Graphics Quality
+",
+    "\
 *rS raster width (*r#S): taken
   Does:    raster width, in pixels
   Values:  whole, from 1
@@ -412,6 +449,13 @@ pub(crate) const TEXTS: [&str; 72] = [
   Why:     it is of colour, which pclcheck does not check
   Instead: let the driver print in black, as for a monochrome printer
   Manual:  of the PCL 5 Color manual: Render Algorithm
+",
+    "\
+*tK half toning (*t#K): refused
+  Why:     it is of printers with several levels of a dot, which pclcheck does
+           not check
+  Instead: choose a driver for LaserJet printers
+  Manual:  of the DeskJet developer's guides
 ",
     "\
 *tR raster graphics resolution (*t#R): taken

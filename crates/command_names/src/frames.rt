@@ -12,7 +12,7 @@ pub(crate) fn texts() -> &'static [&'static str]
 }
 
 /// In the order of their keys.
-pub(crate) const TEXTS: [&str; 73] = [
+pub(crate) const TEXTS: [&str; 80] = [
     "\
 AA arc absolute (AA): refused
   Why:     the printer draws the curve by steps of its own
@@ -95,6 +95,12 @@ CR set color range (CR): refused
   Manual:  of the PCL 5 Color manual: Set Color Range
 ",
     "\
+CT chord tolerance mode (CT): refused
+  Why:     it is of plotters, and printers pass over it
+  Instead: take it out, or choose a plotter without it in the program
+  Manual:  of the HP-GL/2 Reference Guide: Chord Tolerance Mode
+",
+    "\
 DF default values (DF): refused
   Why:     pclcheck returns to defaults by IN alone
   Instead: send IN
@@ -142,6 +148,12 @@ EA edge rectangle absolute (EA): refused
   Manual:  \"The Polygon Group\", Edge Rectangle Absolute
 ",
     "\
+EC enable cutter (EC): refused
+  Why:     it is of plotters, and printers pass over it
+  Instead: take it out, or choose a plotter without it in the program
+  Manual:  of the HP-GL/2 Reference Guide: Enable Cutter
+",
+    "\
 EP edge polygon (EP): refused
   Why:     pclcheck checks lines of PD alone
   Instead: draw the sides by PD
@@ -187,6 +199,12 @@ FP fill polygon (FP): refused
   Manual:  \"The Polygon Group\", Fill Polygon
 ",
     "\
+FR frame advance (FR): refused
+  Why:     it is of plotters, and printers pass over it
+  Instead: take it out, or choose a plotter without it in the program
+  Manual:  of the HP-GL/2 Reference Guide: Frame Advance
+",
+    "\
 FT fill type (FT): refused
   Why:     pclcheck does not follow the areas that are filled
   Instead: let the program draw lines alone, or fill by ESC *c#P
@@ -212,7 +230,7 @@ IR input relative P1 and P2 (IR): refused
     "\
 IW input window (IW): refused
   Why:     it cuts what is drawn
-  Instead: draw inside the picture frame, which 28 checks
+  Instead: draw inside the picture frame, which 29 checks
   Manual:  \"The Configuration and Status Group\", Input Window
 ",
     "\
@@ -255,10 +273,28 @@ MC merge control (MC): refused
   Manual:  of the PCL 5 Color manual: Merge Control
 ",
     "\
+MG message (MG): refused
+  Why:     it is of plotters, and printers pass over it
+  Instead: take it out, or choose a plotter without it in the program
+  Manual:  of the HP-GL/2 Reference Guide: Message
+",
+    "\
+MT media type (MT): refused
+  Why:     it is of plotters, and printers pass over it
+  Instead: take it out, or choose a plotter without it in the program
+  Manual:  of the HP-GL/2 Reference Guide: Media Type
+",
+    "\
 NP number of pens (NP): refused
   Why:     it is of colour, which pclcheck does not check
   Instead: use one black pen, SP1
   Manual:  of the PCL 5 Color manual: Number of Pens
+",
+    "\
+NR not ready (NR): refused
+  Why:     it is of plotters, and printers pass over it
+  Instead: take it out, or choose a plotter without it in the program
+  Manual:  of the HP-GL/2 Reference Guide: Not Ready
 ",
     "\
 PA plot absolute (PA): taken
@@ -329,6 +365,12 @@ PW pen width (PW): taken
   Values:  more than 0
   Finds:   10
   Manual:  \"The Line and Fill Attributes Group\", Pen Width
+",
+    "\
+QL quality level (QL): refused
+  Why:     it is of plotters, and printers pass over it
+  Instead: take it out, or choose a plotter without it in the program
+  Manual:  of the HP-GL/2 Reference Guide: Quality Level
 ",
     "\
 RA fill rectangle absolute (RA): refused

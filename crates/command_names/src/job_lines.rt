@@ -12,7 +12,7 @@ pub(crate) fn texts() -> &'static [&'static str]
 }
 
 /// In the order of their keys.
-pub(crate) const TEXTS: [&str; 27] = [
+pub(crate) const TEXTS: [&str; 30] = [
     "\
 COMMENT comment (@PJL COMMENT): taken
   Does:    it does nothing
@@ -138,8 +138,29 @@ JOB job (@PJL JOB): taken
   Manual:  of the PJL manual: \"Job Separation Commands\"
 ",
     "\
+LANGUAGE=PCL3GUI enter PCL 3 GUI (@PJL ENTER LANGUAGE=PCL3GUI): refused
+  Why:     its bytes are of a language of DeskJet printers, which pclcheck does
+           not read
+  Instead: choose a driver for PCL 5, whose jobs have LANGUAGE=PCL
+  Manual:  of the PJL manual: \"Kernel Commands\"
+",
+    "\
+LANGUAGE=PCLXL enter PCL XL (@PJL ENTER LANGUAGE=PCLXL): refused
+  Why:     its bytes are those of PCL XL, that is PCL 6, which pclcheck does
+           not read
+  Instead: choose a driver for PCL 5, whose jobs have LANGUAGE=PCL
+  Manual:  of the PJL manual: \"Kernel Commands\"
+",
+    "\
+LANGUAGE=POSTSCRIPT enter PostScript (@PJL ENTER LANGUAGE=POSTSCRIPT): refused
+  Why:     its bytes are those of PostScript, which pclcheck does not read
+  Instead: choose a driver for PCL 5, whose jobs have LANGUAGE=PCL
+  Manual:  of the PJL manual: \"Kernel Commands\"
+",
+    "\
 OPMSG operator message (@PJL OPMSG): refused
-  Why:     it writes on the printer's display
+  Why:     it writes on the printer's display, and the printer waits for its
+           operator
   Instead: name the job by @PJL JOB DISPLAY
   Manual:  of the PJL manual: \"Device Attendance Commands\"
 ",
@@ -165,7 +186,8 @@ SET set value (@PJL SET): refused
 ",
     "\
 STMSG status message (@PJL STMSG): refused
-  Why:     it writes on the printer's display
+  Why:     it writes on the printer's display, and the printer may wait for its
+           operator
   Instead: name the job by @PJL JOB DISPLAY
   Manual:  of the PJL manual: \"Device Attendance Commands\"
 ",

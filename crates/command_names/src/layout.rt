@@ -13,7 +13,7 @@ pub(crate) fn texts() -> &'static [&'static str]
 }
 
 /// In the order of their keys.
-pub(crate) const TEXTS: [&str; 55] = [
+pub(crate) const TEXTS: [&str; 57] = [
     "\
 %-12345X universal exit language (%-12345X): taken
   Does:    as ESC E; a line that begins with @ is one of the job language then
@@ -75,6 +75,12 @@ pub(crate) const TEXTS: [&str; 55] = [
   Manual:  \"Page Control Commands\", Right Margin
 ",
     "\
+&aN negative motion (&a#N): refused
+  Why:     it is of DeskJet and color printers, which pclcheck does not check
+  Instead: choose a driver for LaserJet printers
+  Manual:  of the DeskJet developer's guides: Negative Motion
+",
+    "\
 &aP print direction (&a#P): refused
   Why:     it turns the page against the paper, which pclcheck does not follow
   Instead: turn the page by the orientation, ESC &l#O
@@ -117,6 +123,7 @@ pub(crate) const TEXTS: [&str; 55] = [
     "\
 &c text path direction (&c#T): refused
   Why:     it lets text run down the page, which pclcheck does not follow
+  Instead: let the driver move to each character, ESC *p#X and ESC *p#Y
   Manual:  \"Cursor Positioning\"
 ",
     "\
@@ -185,6 +192,13 @@ pub(crate) const TEXTS: [&str; 55] = [
   Why:     it chooses a pitch by a name of older printers
   Instead: choose the pitch by ESC (s#H
   Manual:  \"PCL Font Selection\", Pitch Mode
+",
+    "\
+&kW print direction of the head (&k#W): refused
+  Why:     it is of DeskJet printers, whose head prints in one direction or in
+           both
+  Instead: choose a driver for LaserJet printers
+  Manual:  of the DeskJet developer's guides
 ",
     "\
 &lA page size (&l#A): taken

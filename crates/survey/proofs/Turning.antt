@@ -24,6 +24,7 @@ use Rattle.survey.specs.declared.part.Part.{Part}
 use Rattle.survey.specs.declared.part.Part.TheVariants as parts
 use Rattle.survey.specs.declared.part.Passing.{Passing}
 use Rattle.survey.specs.declared.part.Turn.{Turn}
+use Rattle.survey.specs.declared.named_line.NamedLine.{NamedLine}
 use Rattle.survey.specs.Passing.{taken, back, behind_escape, introduced, in_grouped, in_ungrouped, is_field_byte, by_kind, in_quoted}
 use Rattle.survey.specs.Passing.{in_character, in_label, in_packed, in_line, in_foreign, passed}
 use Rattle.survey.specs.Survey.{Reads, Passes, standing_of}
@@ -178,8 +179,8 @@ packed_goes : (b : ℕ) → GoesOn (in_packed b)
 packed_goes b =
     cond_both (b == 59) _ _ GoesOn (λ _. inl refl) (λ _. cond_both (b == 27) _ _ GoesOn (λ _. inr (refl, tt)) (λ _. inl refl))
 
-line_goes : (matched b : ℕ) → GoesOn (in_line matched b)
-line_goes matched b = cond_both (b == 10) _ _ GoesOn (λ _. inl refl) (λ _. inl refl)
+line_goes : (p : Passing) (matched : ℕ) (line : NamedLine) (b : ℕ) → GoesOn (in_line p matched line b)
+line_goes p matched line b = cond_both (b == 10) _ _ GoesOn (λ _. inl refl) (λ _. inl refl)
 
 foreign_goes : (matched b : ℕ) → GoesOn (in_foreign matched b)
 foreign_goes matched b =
@@ -192,13 +193,14 @@ passed_goes (parts.Introduced p i) place b = introduced_goes p i b
 passed_goes (parts.Grouped p i group count) place b = grouped_goes p i group count place b
 passed_goes (parts.Ungrouped p i) place b = ungrouped_goes p i b
 passed_goes (parts.Data home n) place b = inl refl
+passed_goes (parts.Inner p i group n) place b = inl refl
 passed_goes (parts.Second first second) place b = inl refl
 passed_goes parts.Numbers place b = kind_goes (kind_of b) b
 passed_goes parts.Quoted place b = quoted_goes b
 passed_goes parts.Character place b = character_goes b
 passed_goes parts.Label place b = label_goes b
 passed_goes parts.Packed place b = packed_goes b
-passed_goes (parts.Line matched) place b = line_goes matched b
+passed_goes (parts.Line p matched line) place b = line_goes p matched line b
 passed_goes (parts.Foreign matched) place b = foreign_goes matched b
 
 goes_less : (is_taken : Bool) (next : Onto) (b : ℕ) (rest : List ℕ) → (is_taken ≡ true) ⊎ ((is_taken ≡ false) × IsBack next) →

@@ -1,4 +1,5 @@
 pub mod DataCommands
+pub mod NamedLines
 pub mod Refusals
 pub mod Passing
 pub mod Turns

@@ -1,5 +1,5 @@
 -- The text of a survey, for people.
-use Rattle.std.specs.Prelude.{ℕ, List, [], ◌∷◌, ◌++◌, codes, decimal, flat_map, get_or, length}
+use Rattle.std.specs.Prelude.{ℕ, ◌==◌, List, [], ◌∷◌, ◌++◌, codes, decimal, flat_map, get_or, length, if◌then◌else◌}
 use Rattle.line_words.specs.Figures.{named}
 use Rattle.line_words.specs.Reason.{bare_name}
 use Rattle.shown_bytes.specs.Shown.{hex_byte, shown_text}
@@ -10,8 +10,13 @@ use Rattle.survey.specs.declared.refusal.Spelled.{Spelled}
 use Rattle.survey.specs.declared.refusal.Spelled.TheVariants.{Control, Sequence, Grouped, Ungrouped, Unended}
 use Rattle.survey.specs.declared.refusal.Spelled.TheVariants.{Instruction, FrameBytes, Line, End}
 use Rattle.survey.specs.declared.table.Row.{Row}
+use Rattle.survey.specs.NamedLines.{line_at}
 use Rattle.survey.specs.Names.{called, spelled_name}
 use Rattle.survey.specs.Tally.{Tally}
+
+-- a line by its words, where it is one that is named
+abbrev pub line_words : List ℕ → List ℕ
+line_words line = if length line == 0 then codes "a line of PJL" else 64 ∷ line
 
 -- commands as the manual has them, with # for the value field
 abbrev pub spelled_words : Spelled → List ℕ
@@ -22,7 +27,7 @@ spelled_words (Ungrouped introducer letter) = codes "ESC " ++ introducer ∷ 35 
 spelled_words Unended = codes "ESC without an end"
 spelled_words (Instruction first second) = first ∷ second ∷ []
 spelled_words FrameBytes = codes "bytes in a frame"
-spelled_words Line = codes "a line of PJL"
+spelled_words (Line number) = line_words (line_at number)
 spelled_words End = codes "the end of the job"
 
 -- how often, and in how many jobs

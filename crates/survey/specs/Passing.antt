@@ -19,11 +19,13 @@ use Rattle.survey.specs.declared.part.Home.TheVariants as homes
 use Rattle.survey.specs.declared.part.Onto.{Onto}
 use Rattle.survey.specs.declared.part.Onto.TheVariants as onto
 use Rattle.survey.specs.declared.part.Part.{Part}
-use Rattle.survey.specs.declared.part.Part.TheVariants.{Escape, Introduced, Grouped, Ungrouped, Data, Second, Numbers}
-use Rattle.survey.specs.declared.part.Part.TheVariants.{Quoted, Character, Label, Packed, Line, Foreign}
+use Rattle.survey.specs.declared.part.Part.TheVariants.{Escape, Introduced, Grouped, Ungrouped, Data, Inner, Second}
+use Rattle.survey.specs.declared.part.Part.TheVariants.{Numbers, Quoted, Character, Label, Packed, Line, Foreign}
 use Rattle.survey.specs.declared.part.Passing.{Passing}
 use Rattle.survey.specs.declared.part.Turn.{Turn}
+use Rattle.survey.specs.declared.named_line.NamedLine.{NamedLine}
 use Rattle.survey.specs.DataCommands.{has_data}
+use Rattle.survey.specs.NamedLines.{line_on, number_of}
 
 -- ---- turns
 
@@ -106,11 +108,25 @@ behind_parameter passing introducer group place =
     next_command passing.home (group_at introducer group)
     (Grouped (record passing { begun = place + 1 }) introducer group no_count)
 
+-- how many bytes of data stand behind a command
+abbrev pub data_of : (introducer group letter : ℕ) → Count → ℕ
+data_of introducer group letter count = if has_data introducer group letter then count.bytes else 0
+
+-- behind the parameter character the same, where the data of its command are over
+abbrev pub behind_inner : Passing → (introducer group n place : ℕ) → Onto
+behind_inner passing introducer group n place =
+    if n == 0 then behind_parameter passing introducer group place
+    else onto.Part (Inner passing introducer group n)
+
+abbrev pub in_inner : Passing → (introducer group n place : ℕ) → Turn
+in_inner passing introducer group n place = passes_to (behind_inner passing introducer group (n - 1) place)
+
 abbrev pub in_grouped : Passing → (introducer group : ℕ) → Count → (place b : ℕ) → Turn
 in_grouped passing introducer group count place b =
     if is_field_byte b then goes_on (Grouped passing introducer group (count_on count b))
     else if is_group_or_parameter b then
-    ends passing (spellings.Grouped introducer group (b - 32)) (behind_parameter passing introducer group place)
+    ends passing (spellings.Grouped introducer group (b - 32))
+    (behind_inner passing introducer group (data_of introducer group (b - 32) count) place)
     else if is_termination b then
     ends passing (spellings.Grouped introducer group b) (behind_last passing.home introducer group b count)
     else breaks passing
@@ -191,8 +207,11 @@ line_matched matched b =
 abbrev pub behind_line : ℕ → Onto
 behind_line matched = if matched == 15 then onto.Part (Foreign 0) else onto.Lines
 
-abbrev pub in_line : (matched b : ℕ) → Turn
-in_line matched b = if b == 10 then passes_to (behind_line matched) else goes_on (Line (line_matched matched b))
+-- a line is told at its end, by its words
+abbrev pub in_line : Passing → (matched : ℕ) → NamedLine → (b : ℕ) → Turn
+in_line passing matched line b =
+    if b == 10 then ends passing (spellings.Line (number_of line)) (behind_line matched)
+    else goes_on (Line passing (line_matched matched b) (line_on line b))
 
 -- another language ends with the universal exit, of nine bytes
 abbrev pub in_foreign : (matched b : ℕ) → Turn
@@ -209,11 +228,12 @@ passed (Introduced passing introducer) place b = introduced passing introducer b
 passed (Grouped passing introducer group count) place b = in_grouped passing introducer group count place b
 passed (Ungrouped passing introducer) place b = in_ungrouped passing introducer b
 passed (Data home n) place b = in_data home n
+passed (Inner passing introducer group n) place b = in_inner passing introducer group n place
 passed (Second first second) place b = goes_on (behind_letters first second)
 passed Numbers place b = in_numbers b
 passed Quoted place b = in_quoted b
 passed Character place b = in_character b
 passed Label place b = in_label b
 passed Packed place b = in_packed b
-passed (Line matched) place b = in_line matched b
+passed (Line passing matched line) place b = in_line passing matched line b
 passed (Foreign matched) place b = in_foreign matched b

@@ -14,7 +14,7 @@ is_same_spelling (Ungrouped a b) (Ungrouped c d) = (a == c) && (b == d)
 is_same_spelling Unended Unended = true
 is_same_spelling (Instruction a b) (Instruction c d) = (a == c) && (b == d)
 is_same_spelling FrameBytes FrameBytes = true
-is_same_spelling Line Line = true
+is_same_spelling (Line a) (Line b) = a == b
 is_same_spelling End End = true
 is_same_spelling _ _ = false
 

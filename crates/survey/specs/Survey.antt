@@ -9,13 +9,14 @@ use Rattle.pcl_lexer.specs.Fault.{end_cause}
 use Rattle.pcl_lexer.specs.Reader.{First, Open, Passes as PassesBytes, Begins, Faulty, first_of}
 use Rattle.pcl_lexer.specs.Reading.{ReadsTo}
 use Rattle.survey.specs.declared.refusal.Refusal.{Refusal}
-use Rattle.survey.specs.declared.refusal.Spelled.TheVariants.{End}
+use Rattle.survey.specs.declared.refusal.Spelled.TheVariants as spellings
 use Rattle.survey.specs.declared.part.Onto.{Onto}
 use Rattle.survey.specs.declared.part.Onto.TheVariants as onto
 use Rattle.survey.specs.declared.part.Part.{Part}
 use Rattle.survey.specs.declared.part.Part.TheVariants as parts
 use Rattle.survey.specs.declared.part.Turn.{Turn}
-use Rattle.survey.specs.Passing.{passed, taken}
+use Rattle.survey.specs.NamedLines.{number_of}
+use Rattle.survey.specs.Passing.{passed, taken, told_of}
 use Rattle.survey.specs.Turns.{fault_turn}
 
 -- the language is read behind this, or bytes that it refused are passed over
@@ -52,29 +53,30 @@ Waits whole (Passes part) bytes = bytes ≡ []
 
 -- ---- the end of all bytes
 
--- what is cut off there
-abbrev pub cut_cause : Part → Option LexCause
-cut_cause (parts.Escape passing) = Some Truncated
-cut_cause (parts.Introduced passing introducer) = Some Truncated
-cut_cause (parts.Grouped passing introducer group count) = Some Truncated
-cut_cause (parts.Ungrouped passing introducer) = Some Truncated
-cut_cause (parts.Data home n) = Some Truncated
-cut_cause (parts.Second first second) = Some EndInFrame
-cut_cause parts.Numbers = Some EndInFrame
-cut_cause parts.Quoted = Some EndInFrame
-cut_cause parts.Character = Some EndInFrame
-cut_cause parts.Label = Some EndInFrame
-cut_cause parts.Packed = Some EndInFrame
-cut_cause (parts.Line matched) = None
-cut_cause (parts.Foreign matched) = None
-
 abbrev pub ends_so : Option LexCause → ℕ → Option Refusal
 ends_so None place = None
-ends_so (Some cause) place = Some (record { cause = cause; spelled = End; place = place })
+ends_so (Some cause) place = Some (record { cause = cause; spelled = spellings.End; place = place })
+
+-- what is cut off there; a line is told by the words that it has
+abbrev pub cut_at : Part → ℕ → Option Refusal
+cut_at (parts.Escape passing) place = ends_so (Some Truncated) place
+cut_at (parts.Introduced passing introducer) place = ends_so (Some Truncated) place
+cut_at (parts.Grouped passing introducer group count) place = ends_so (Some Truncated) place
+cut_at (parts.Ungrouped passing introducer) place = ends_so (Some Truncated) place
+cut_at (parts.Data home n) place = ends_so (Some Truncated) place
+cut_at (parts.Inner passing introducer group n) place = ends_so (Some Truncated) place
+cut_at (parts.Second first second) place = ends_so (Some EndInFrame) place
+cut_at parts.Numbers place = ends_so (Some EndInFrame) place
+cut_at parts.Quoted place = ends_so (Some EndInFrame) place
+cut_at parts.Character place = ends_so (Some EndInFrame) place
+cut_at parts.Label place = ends_so (Some EndInFrame) place
+cut_at parts.Packed place = ends_so (Some EndInFrame) place
+cut_at (parts.Line passing matched line) place = Some (told_of passing (spellings.Line (number_of line)))
+cut_at (parts.Foreign matched) place = None
 
 abbrev pub at_end : Standing → ℕ → List ℕ → Option Refusal
 at_end (Reads context) place bytes = ends_so (end_cause context bytes) (item_place context place)
-at_end (Passes part) place bytes = ends_so (cut_cause part) place
+at_end (Passes part) place bytes = cut_at part place
 
 -- ---- the survey
 

@@ -9,13 +9,14 @@ use Rattle.pcl_items.specs.Escapes.Commands.{introducer_of, character_of}
 use Rattle.pcl_items.specs.Frames.Mnemonics.{letters_of}
 use Rattle.pcl_lexer.specs.Lexing.Contexts.{Context, Pcl, Sequence, Frame, Letters, Numbered, Pjl, item_place}
 use Rattle.pcl_lexer.specs.Lexing.Contexts.{Numbers, Single, Odd, Even}
-use Rattle.survey.specs.declared.refusal.Spelled.TheVariants.{Control, Instruction, FrameBytes, Line}
+use Rattle.survey.specs.declared.refusal.Spelled.TheVariants.{Control, Instruction, FrameBytes}
 use Rattle.survey.specs.declared.part.Home.{Home}
 use Rattle.survey.specs.declared.part.Home.TheVariants as homes
 use Rattle.survey.specs.declared.part.Onto.TheVariants as onto
 use Rattle.survey.specs.declared.part.Part.TheVariants as parts
 use Rattle.survey.specs.declared.part.Passing.{Passing}
 use Rattle.survey.specs.declared.part.Turn.{Turn}
+use Rattle.survey.specs.NamedLines.{no_line}
 use Rattle.survey.specs.Passing.{ends, goes_on, no_count}
 
 abbrev pub passing_at : LexCause → Home → ℕ → Passing
@@ -30,7 +31,7 @@ in_page cause place b =
 -- and where a line of the job language may stand
 abbrev pub in_lines : LexCause → (place b : ℕ) → Turn
 in_lines cause place b =
-    if b == 64 then ends (passing_at cause homes.Page place) Line (onto.Part (parts.Line 0)) else in_page cause place b
+    if b == 64 then goes_on (parts.Line (passing_at cause homes.Page place) 0 no_line) else in_page cause place b
 
 -- in a combined sequence of a group the value field of a command
 abbrev pub in_sequence : Group → LexCause → (place : ℕ) → Turn

@@ -9,6 +9,7 @@ mod command;
 mod data_commands;
 mod laws;
 mod lines;
+mod named_line;
 mod names;
 mod objects;
 mod part;

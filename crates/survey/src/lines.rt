@@ -8,6 +8,7 @@ ghost use Rattle.survey.specs.Lines.{
   first_words,
   jobs_words,
   last_line,
+  line_words,
   name_at,
   number_words,
   others_words,
@@ -21,6 +22,7 @@ ghost use Rattle.survey.specs.Lines.{
   what_words,
 };
 
+use crate::named_line::line_at;
 use crate::names::push_called;
 use crate::refusal::{Refusal, Spelled};
 use crate::table::{Row, Table};
@@ -161,9 +163,20 @@ pub(crate) fn push_spelled<A: Allocator>(
         Spelled::Unended => text.extend_from_slice(b"ESC without an end"),
         Spelled::Instruction(first, second) => text.extend_from_slice(&[first, second]),
         Spelled::FrameBytes => text.extend_from_slice(b"bytes in a frame"),
-        Spelled::Line => text.extend_from_slice(b"a line of PJL"),
+        Spelled::Line(number) => push_line(text, line_at(number)),
         Spelled::End => text.extend_from_slice(b"the end of the job"),
     }
+}
+
+/// Appends a line of the job language by its words, where it has a name.
+fn push_line<A: Allocator>(text: &mut Vec<u8, A>, line: &str) -> Result<(), AllocError>
+    ensures { OnOk result (text.new.items ≡ text.old.items ++ line_words line.now) }
+{
+    if line.is_empty() {
+        return text.extend_from_slice(b"a line of PJL");
+    }
+    text.push(b'@')?;
+    text.extend_from_slice(line.as_bytes())
 }
 
 /// Appends where something stands first.

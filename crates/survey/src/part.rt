@@ -3,6 +3,7 @@
 ghost use Rattle.std.specs.Prelude.{◌≡◌, ◌≤◌};
 ghost use Rattle.survey.specs.Passing.{no_count, taken};
 
+use crate::named_line::NamedLine;
 use crate::refusal::Refusal;
 use pcl_items::{Group, LexCause, Place};
 
@@ -45,6 +46,8 @@ pub enum Part {
     Ungrouped(Passing, u8),
     /// So many bytes of data.
     Data(Home, u16),
+    /// So many bytes of data within a combined sequence of an introducer and a group character.
+    Inner(Passing, u8, u8, u16),
     /// The second letter of an instruction of HP-GL/2, whose letters as capitals these are.
     Second(u8, u8),
     /// The numbers of an instruction.
@@ -57,8 +60,9 @@ pub enum Part {
     Label,
     /// Numbers that are packed, up to a semicolon, as behind `PE`.
     Packed,
-    /// A line of the job language, of which so many bytes of ` ENTER LANGUAGE` stand before.
-    Line(u8),
+    /// A line of the job language, of which so many bytes of ` ENTER LANGUAGE` stand before, and
+    /// which line it is so far.
+    Line(Passing, u8, NamedLine),
     /// Another language, of which so many bytes of the universal exit stand before.
     Foreign(u8),
 }

@@ -1,10 +1,11 @@
 //! What of a refused command is passed over, byte by byte.
 
-ghost use Rattle.std.specs.Prelude.{◌≡◌, ◌<◌, ◌^◌, get_or};
+ghost use Rattle.std.specs.Prelude.{◌≡◌, ◌<◌, ◌^◌};
 ghost use Rattle.survey.specs.Passing.{
   back,
   behind_count,
   behind_escape,
+  behind_inner,
   behind_last,
   behind_letters,
   behind_line,
@@ -12,11 +13,13 @@ ghost use Rattle.survey.specs.Passing.{
   behind_ungrouped,
   breaks,
   count_on,
+  data_of,
   ends,
   goes_on,
   in_character,
   in_data,
   in_grouped,
+  in_inner,
   in_label,
   in_line,
   in_foreign,
@@ -35,6 +38,7 @@ ghost use Rattle.survey.specs.Passing.{
 };
 
 use crate::data_commands::has_data;
+use crate::named_line::{NamedLine, byte_at};
 use crate::part::{Count, Home, Onto, Part, Passing, Turn};
 use crate::refusal::{Refusal, Spelled};
 use pcl_items::{Group, Place, capital};
@@ -65,13 +69,16 @@ pub fn pass(part: Part, place: Place, byte: u8) -> Turn
         }
         Part::Ungrouped(passing, introducer) => in_ungrouped(passing, introducer, byte),
         Part::Data(home, bytes) => in_data(home, bytes),
+        Part::Inner(passing, introducer, group, bytes) => {
+            in_inner(passing, introducer, group, bytes, place)
+        }
         Part::Second(first, second) => goes_on(behind_letters(first, second)),
         Part::Numbers => in_numbers(byte),
         Part::Quoted => in_quoted(byte),
         Part::Character => in_character(byte),
         Part::Label => in_label(byte),
         Part::Packed => in_packed(byte),
-        Part::Line(matched) => in_line(matched, byte),
+        Part::Line(passing, matched, line) => in_line(passing, matched, line, byte),
         Part::Foreign(matched) => in_foreign(matched, byte),
     }
 }
@@ -130,7 +137,7 @@ fn breaks(passing: Passing) -> Turn
 }
 
 /// What is told of a command at its end.
-fn told_of(passing: Passing, spelled: Spelled) -> Refusal
+pub(crate) fn told_of(passing: Passing, spelled: Spelled) -> Refusal
     ensures { result ≡ told_of passing spelled }
 {
     Refusal {
@@ -219,12 +226,10 @@ fn in_grouped(
     }
     match byte {
         96..=126 => {
-            let onto = behind_parameter(passing, introducer, group, place);
-            ends(
-                passing,
-                Spelled::Grouped(introducer, group, byte - 32),
-                onto,
-            )
+            let letter = byte - 32;
+            let bytes = data_of(introducer, group, letter, count);
+            let onto = behind_inner(passing, introducer, group, bytes, place);
+            ends(passing, Spelled::Grouped(introducer, group, letter), onto)
         }
         64..=94 => {
             let onto = behind_last(passing.home, introducer, group, byte, count);
@@ -249,6 +254,38 @@ fn behind_parameter(passing: Passing, introducer: u8, group: u8, place: Place) -
         (Home::Page, Some(group)) => Onto::Group(group),
         _ => Onto::Part(part),
     }
+}
+
+/// How many bytes of data stand behind a command.
+fn data_of(introducer: u8, group: u8, letter: u8, count: Count) -> u16
+    ensures { result ≡ data_of introducer group letter count }
+{
+    if has_data(introducer, group, letter) {
+        count.bytes
+    } else {
+        0
+    }
+}
+
+/// Where a combined sequence goes on behind a command that is not its last: at its data, where so
+/// many bytes of them are left.
+fn behind_inner(passing: Passing, introducer: u8, group: u8, bytes: u16, place: Place) -> Onto
+    requires { place < 2 ^ 62 }
+    ensures { result ≡ behind_inner passing introducer group bytes place }
+{
+    if bytes == 0 {
+        behind_parameter(passing, introducer, group, place)
+    } else {
+        Onto::Part(Part::Inner(passing, introducer, group, bytes))
+    }
+}
+
+fn in_inner(passing: Passing, introducer: u8, group: u8, bytes: u16, place: Place) -> Turn
+    requires { place < 2 ^ 62 }
+    ensures { result ≡ in_inner passing introducer group bytes place }
+{
+    let left = bytes.saturating_sub(1);
+    passes_to(behind_inner(passing, introducer, group, left, place))
 }
 
 /// Where it goes on behind the last command of a sequence: at its data, where it has any.
@@ -385,12 +422,16 @@ fn in_packed(byte: u8) -> Turn
 
 // ---- lines of the job language, and other languages
 
-fn in_line(matched: u8, byte: u8) -> Turn
-    ensures { result ≡ in_line matched byte }
+/// A line is told at its end, by its words.
+fn in_line(passing: Passing, matched: u8, line: NamedLine, byte: u8) -> Turn
+    ensures { result ≡ in_line passing matched line byte }
 {
     match byte {
-        b'\n' => passes_to(behind_line(matched)),
-        _ => goes_on(Part::Line(line_matched(matched, byte))),
+        b'\n' => ends(passing, Spelled::Line(line.number()), behind_line(matched)),
+        _ => {
+            let matched = line_matched(matched, byte);
+            goes_on(Part::Line(passing, matched, line.with_byte(byte)))
+        }
     }
 }
 
@@ -434,14 +475,4 @@ fn in_foreign(matched: u8, byte: u8) -> Turn
     }
     let begun = if byte == b'\x1b' { 1 } else { 0 };
     goes_on(Part::Foreign(begun))
-}
-
-/// The byte of a text behind so many others, or 0.
-fn byte_at(text: &[u8], before: u8) -> u8
-    ensures { result ≡ get_or text.now before 0 }
-{
-    match text.get(usize::from(before)) {
-        Some(byte) => *byte,
-        None => 0,
-    }
 }

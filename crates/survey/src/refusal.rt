@@ -6,6 +6,7 @@ ghost use Rattle.survey.specs.declared.refusal.Spelled.TheVariants.{
   Control,
   Grouped,
   Instruction,
+  Line,
   Sequence,
   Ungrouped,
 };
@@ -32,8 +33,8 @@ pub enum Spelled {
     Instruction(u8, u8),
     /// Bytes between the instructions of a frame.
     FrameBytes,
-    /// A line of the job language.
-    Line,
+    /// A line of the job language, by the number of its words among those of lines that are named.
+    Line(usize),
     /// The end of the job, within what stands there.
     End,
 }
@@ -76,7 +77,7 @@ fn is_same_spelling(one: Spelled, other: Spelled) -> bool
         Spelled::Unended => matches!(other, Spelled::Unended),
         Spelled::Instruction(first, second) => is_instruction(first, second, other),
         Spelled::FrameBytes => matches!(other, Spelled::FrameBytes),
-        Spelled::Line => matches!(other, Spelled::Line),
+        Spelled::Line(number) => is_line(number, other),
         Spelled::End => matches!(other, Spelled::End),
     }
 }
@@ -122,6 +123,15 @@ fn is_instruction(first: u8, second: u8, other: Spelled) -> bool
 {
     match other {
         Spelled::Instruction(a, b) => first == a && second == b,
+        _ => false,
+    }
+}
+
+fn is_line(number: usize, other: Spelled) -> bool
+    ensures { result ≡ is_same_spelling (Line number) other }
+{
+    match other {
+        Spelled::Line(own) => number == own,
         _ => false,
     }
 }

@@ -3,11 +3,11 @@
 ghost use Rattle.std.specs.Prelude.{◌≡◌, ◌+◌, ◌≤◌, ◌^◌, Bool, get_or, length};
 ghost use Rattle.pcl_lexer.specs.Lexing.Contexts.{counted};
 ghost use Rattle.pcl_lexer.specs.Lexing.FirstView.{context_view};
-ghost use Rattle.survey.specs.Survey.{Passes, Reads, at_end, cut_cause, ends_so, standing_of};
+ghost use Rattle.survey.specs.Survey.{Passes, Reads, at_end, cut_at, ends_so, standing_of};
 ghost use Rattle.survey.specs.Carriers.Steps.{IsStep, counted_in, standing_view, waiting_at};
 
 use crate::part::{Onto, Part};
-use crate::pass::pass;
+use crate::pass::{pass, told_of};
 use crate::refusal::{Refusal, Spelled};
 use crate::turn::fault_turn;
 use pcl_items::{LexCause, Place};
@@ -74,7 +74,7 @@ impl Standing {
                     context.item_place(place),
                 )
             }
-            Standing::Passes(part) => ends_so(cut_cause(part), place),
+            Standing::Passes(part) => cut_at(part, place),
         }
     }
 }
@@ -93,23 +93,26 @@ fn ends_so(cause: Option<LexCause>, place: Place) -> Option<Refusal>
     }
 }
 
-/// What the end of the job is to bytes that are passed over.
-fn cut_cause(part: Part) -> Option<LexCause>
-    ensures { result ≡ cut_cause part }
+/// What is told at the end of the job of bytes that are passed over: of a line the words that it
+/// has.
+fn cut_at(part: Part, place: Place) -> Option<Refusal>
+    ensures { result ≡ cut_at part place }
 {
     match part {
         Part::Escape(_)
         | Part::Introduced(_, _)
         | Part::Grouped(_, _, _, _)
         | Part::Ungrouped(_, _)
-        | Part::Data(_, _) => Some(LexCause::Truncated),
+        | Part::Data(_, _)
+        | Part::Inner(_, _, _, _) => ends_so(Some(LexCause::Truncated), place),
         Part::Second(_, _)
         | Part::Numbers
         | Part::Quoted
         | Part::Character
         | Part::Label
-        | Part::Packed => Some(LexCause::EndInFrame),
-        Part::Line(_) | Part::Foreign(_) => None,
+        | Part::Packed => ends_so(Some(LexCause::EndInFrame), place),
+        Part::Line(passing, _, line) => Some(told_of(passing, Spelled::Line(line.number()))),
+        Part::Foreign(_) => None,
     }
 }
 

@@ -15,6 +15,7 @@ ghost use Rattle.survey.specs.Turns.{
   passing_at,
 };
 
+use crate::named_line::NamedLine;
 use crate::part::{Count, Home, Onto, Part, Passing, Turn};
 use crate::pass::{ends, goes_on};
 use crate::refusal::{Refusal, Spelled};
@@ -65,7 +66,7 @@ fn in_lines(cause: LexCause, place: Place, byte: u8) -> Turn
     match byte {
         b'@' => {
             let passing = passing_at(cause, Home::Page, place);
-            ends(passing, Spelled::Line, Onto::Part(Part::Line(0)))
+            goes_on(Part::Line(passing, 0, NamedLine::none()))
         }
         _ => in_page(cause, place, byte),
     }
