@@ -11,6 +11,7 @@ from functools import cache
 from pathlib import Path
 from typing import Optional
 
+import command_rows
 from make_findings import filled
 from tree import Tree, Unreadable
 
@@ -18,9 +19,7 @@ sys.path.append(str(Path(__file__).resolve().parent.parent / "crosscheck"))
 
 from help_text import Command, Program                                 # noqa: E402
 
-NAMES = ("check", "survey", "list", "pages", "picture", "notes", "plain", "pin", "explain",
-         "profile", "profile list", "profile new", "profile lint", "profile show",
-         "profile sheet", "profile from-pjl")
+NAMES = command_rows.names()
 HELP = "-h, --help"
 # Those of `check` stand in a section of their own, which is written by hand.
 WITH_STATUSES = NAMES[1:]
@@ -32,7 +31,7 @@ def commands(program: Path) -> dict[str, Command]:
     """The commands of the program, by their names."""
     found = {command.name: command for command in Program(str(program)).commands()}
     if sorted(found) != sorted(("", *NAMES)):
-        raise Unreadable(f"docs/make_help.py knows other commands than {program} has")
+        raise Unreadable(f"crates/command_line has other commands than {program}")
     return found
 
 
