@@ -102,8 +102,8 @@ RenderedTo first start ended bytes lexer rendering written kept (Ok (Some outcom
     HasEnded first start ended bytes written kept outcome
 RenderedTo first start ended bytes lexer rendering written kept (Err e) = IsFrontFor first start written bytes
 
--- Whatever the job is, what its bytes decide is rendered on: where its items were rendered so far, and it has so many
--- bytes, it came to this.
+-- Of every job: where the items that were read of its bytes were rendered so far, and the bytes are so many, the
+-- rendering of all items that they decide came to this.
 abbrev pub RendersDecided : LexerState → LexerState → ℕ → Result (Option Outcome) Error → Rendering → Rendering →
     OutletState → OutletState → List ℕ → List ℕ → Type 0
 RendersDecided lexer lexer' total result before after written written' kept kept' =
