@@ -15,42 +15,20 @@ import re
 import sys
 from pathlib import Path
 
+sys.dont_write_bytecode = True
+
 FOLDER = Path(__file__).resolve().parent
-ROWS = FOLDER.parent / "crates" / "command_line" / "src"
+sys.path.append(str(FOLDER.parent / "docs"))
+
+import command_rows                                                    # noqa: E402
+
 FIELDS = FOLDER.parent / "crates" / "device_profile" / "src" / "field.rt"
 BASH, ZSH, FISH = FOLDER / "bash/pclcheck", FOLDER / "zsh/_pclcheck", FOLDER / "fish/pclcheck.fish"
-HELP = ("help", "Print this message or the help of the given subcommand(s)", [])
+HELP = command_rows.Row("help", "Print this message or the help of the given subcommand(s)", [])
 # What zsh calls the words that commands take, and what it offers for them.
 OFFERED = {"JOB": "job:_files", "OUT": "file to write:_files",
            "PROFILE": "profile:_pclcheck_profiles"}
 COLUMNS = 100
-
-
-def text_of(literal):
-    """The text of a string of the code."""
-    return re.sub(r"\\\n\s*", "", literal).replace('\\"', '"')
-
-
-def rows_of_code():
-    """The rows of the commands by their names: the command, what it does, and the words that it
-    takes, None where these are no words that several commands take."""
-    rows = {}
-    for path in ROWS.glob("*.rt"):
-        for name, body in re.findall(r"const (\w+): &CommandRow = &CommandRow \{(.*?)\n\};",
-                                     path.read_text(encoding="utf-8"), re.DOTALL):
-            words = re.search(r"words: &\[([A-Z, ]*)\]", body)
-            has_options = "options: &[]" not in body
-            rows[name] = (re.search(r'name: "([\w-]+)"', body)[1],
-                          text_of(re.search(r'about: "(.*?)",\n', body, re.DOTALL)[1]),
-                          None if has_options or not words else re.findall(r"[A-Z]+", words[1]))
-    return rows
-
-
-def commands_of(text, listed, rows):
-    """The commands of a list of commands.rt, in its order."""
-    listed = re.search(rf"const {listed}: &\[CommandName\] = &\[(.*?)\];", text, re.DOTALL)[1]
-    by_name = dict(re.findall(r"CommandName::(\w+) => (\w+)", text))
-    return [rows[by_name[name]] for name in re.findall(r"CommandName::(\w+)", listed)]
 
 
 def keys_of_fields():
@@ -84,7 +62,7 @@ def replaced(text, begin, end, bodies):
 
 
 def in_bash(text, top, profile):
-    names, below = (" ".join(row[0] for row in rows) for rows in (top, profile))
+    names, below = (" ".join(row.name for row in rows) for rows in (top, profile))
     for begin, words in ((r"''\) echo '(?=check)", names), (r"'help'\) echo '", names),
                          (r"'profile'\) echo '", below), (r"'profile help'\) echo '", below)):
         text = replaced(text, begin, "'", [words])
@@ -109,7 +87,7 @@ def in_zsh(text, top, profile):
 
 def case_of_fish(top, profile):
     """The words of the commands, in lines."""
-    words = [f" {row[0]}" for row in top] + [f"profile {row[0]}" for row in profile]
+    words = [f" {row.name}" for row in top] + [f"profile {row.name}" for row in profile]
     return wrapped("            case", [f"'{word}'" for word in words + ["help profile"]], 16)
 
 
@@ -135,11 +113,7 @@ def in_fish(text, top, profile):
 
 
 def main():
-    rows = rows_of_code()
-    lists = (ROWS / "commands.rt").read_text(encoding="utf-8")
-    name, about, _ = rows["PROFILE_COMMANDS"]
-    top = commands_of(lists, "BELOW_PROGRAM", rows) + [(name, about, None), HELP]
-    profile = commands_of(lists, "BELOW_PROFILE", rows) + [HELP]
+    top, profile = ([*rows, HELP] for rows in command_rows.commands())
     changed = []
     for path, write in ((BASH, in_bash), (ZSH, in_zsh), (FISH, in_fish)):
         text = path.read_text(encoding="utf-8")

@@ -24,12 +24,24 @@ class Command:
     arguments: Dict[str, str]
     options: Dict[str, str]
     statuses: Dict[str, str]
-    # What else is said, each line and each column of it by itself.
-    cells: List[str]
+    # What else is said, in parts between empty lines.
+    others: List[str]
 
     @property
     def name(self) -> str:
         return " ".join(self.words)
+
+    @property
+    def cells(self) -> List[str]:
+        """What else is said, each line and each column of it by itself."""
+        cells: List[str] = []
+        for part in self.others:
+            heading, *lines = part.split("\n")
+            if not heading.endswith(":") or heading.startswith(" "):
+                lines.insert(0, heading)
+            cells += (words_of(cell) for line in lines
+                      for cell in re.split(r"   +|(?<=\S)  +", line))
+        return [cell for cell in cells if cell]
 
     def short_and_long(self) -> Dict[str, str]:
         """Each way to write an option, with what is told of it, but for brackets at its end."""
@@ -95,17 +107,14 @@ def read_help(words: Tuple[str, ...], text: str) -> Command:
     """The command that a help tells of, whose parts have a heading and end at an empty line."""
     parts = text.strip("\n").split("\n\n")
     tables: Dict[str, Dict[str, str]] = {}
-    cells: List[str] = []
+    others: List[str] = []
     for part in parts[2:]:
         heading, *lines = part.split("\n")
         name = heading.split(",")[0].rstrip(":")
         if name in ("Commands", "Arguments", "Options", "Exit status"):
             tables[name] = rows_of(lines)
-            continue
-        if not heading.endswith(":") or heading.startswith(" "):
-            lines.insert(0, heading)
-        cells += (words_of(cell) for line in lines for cell in re.split(r"   +|(?<=\S)  +", line))
+        else:
+            others.append(part)
     return Command(words, parts[0], parts[1].removeprefix("Usage: "),
                    *(tables.get(name, {}) for name in ("Commands", "Arguments", "Options",
-                                                       "Exit status")),
-                   [cell for cell in cells if cell])
+                                                       "Exit status")), others)

@@ -1,30 +1,30 @@
 """Makes what the documents repeat of the program's `--help`: options, words, exit statuses.
 
-COMMANDS has a table of the options of `check`; the manual page its synopsis, and for each command
-the entries of its words and options and of its exit statuses. All of it needs the program.
+COMMANDS has a table of the options of `check`; the manual page the synopsis, the entries of the
+words and options of `check`, and the sections of the other commands. All of it needs the program.
 """
 
 import re
 import sys
-from collections.abc import Callable, Iterator
+import textwrap
 from functools import cache
+from itertools import dropwhile
 from pathlib import Path
 from typing import Optional
 
-from make_findings import filled
+import command_rows
+from make_findings import ESCAPES, filled
 from tree import Tree, Unreadable
 
 sys.path.append(str(Path(__file__).resolve().parent.parent / "crosscheck"))
 
-from help_text import Command, Program                                 # noqa: E402
+from help_text import Command, Program, rows_of                        # noqa: E402
 
-NAMES = ("check", "survey", "list", "pages", "picture", "notes", "plain", "pin", "explain",
-         "profile", "profile list", "profile new", "profile lint", "profile show",
-         "profile sheet", "profile from-pjl")
+NAMES = command_rows.names()
 HELP = "-h, --help"
-# Those of `check` stand in a section of their own, which is written by hand.
-WITH_STATUSES = NAMES[1:]
-WITH_WORDS = tuple(name for name in NAMES if name != "profile list")
+# A line of a help that has two columns.
+IS_ROW = re.compile(r"  +\S.*?  +\S")
+COLUMNS = 78
 
 
 @cache
@@ -32,7 +32,7 @@ def commands(program: Path) -> dict[str, Command]:
     """The commands of the program, by their names."""
     found = {command.name: command for command in Program(str(program)).commands()}
     if sorted(found) != sorted(("", *NAMES)):
-        raise Unreadable(f"docs/make_help.py knows other commands than {program} has")
+        raise Unreadable(f"crates/command_line has other commands than {program}")
     return found
 
 
@@ -55,7 +55,7 @@ def synopsis(tree: Tree) -> Optional[str]:
 
 
 def escaped(text: str) -> str:
-    return text.replace("-", r"\-")
+    return "".join(ESCAPES.get(character, character) for character in text)
 
 
 def tag_of(words: str) -> str:
@@ -75,36 +75,67 @@ def entries(tags: dict[str, str]) -> str:
     return "\n".join(f".TP\n{tag}\n{filled(about)}" for tag, about in tags.items())
 
 
-def words_of(name: str) -> Callable[[Tree], Optional[str]]:
-    """The maker of the entries of a command's words: commands below it, arguments and options."""
-    def made(tree: Tree) -> Optional[str]:
-        if tree.program is None:
-            return None
-        command = commands(tree.program)[name]
-        tags = {f".B {escaped(word)}": about for word, about in command.commands.items()}
-        both = {**command.arguments, **command.options}
-        tags.update((tag_of(words), about) for words, about in both.items() if words != HELP)
-        return entries(tags)
-    return made
+def words_of(command: Command) -> str:
+    """The entries of a command's words: commands below it, arguments and options."""
+    tags = {f".B {escaped(word)}": about for word, about in command.commands.items()}
+    both = {**command.arguments, **command.options}
+    tags.update((tag_of(words), about) for words, about in both.items() if words != HELP)
+    return entries(tags)
 
 
-def statuses_of(name: str) -> Callable[[Tree], Optional[str]]:
-    """The maker of the entries of a command's exit statuses."""
-    def made(tree: Tree) -> Optional[str]:
-        if tree.program is None:
-            return None
-        statuses = commands(tree.program)[name].statuses
-        return entries({f".B {status}": about for status, about in statuses.items()})
-    return made
+def words_of_check(tree: Tree) -> Optional[str]:
+    """The entries of the words of `check`, whose section is written by hand."""
+    return None if tree.program is None else words_of(commands(tree.program)["check"])
 
 
-def parts() -> Iterator[tuple[str, Callable[[Tree], Optional[str]]]]:
-    yield "options of check", options_of_check
-    yield "synopsis", synopsis
-    for name in WITH_WORDS:
-        yield f"words of {name}", words_of(name)
-    for name in WITH_STATUSES:
-        yield f"statuses of {name}", statuses_of(name)
+def section_of(command: Command) -> str:
+    """The section of a command, which has all that its help says but for examples."""
+    lead = [f".SS {command.name}", f".B {escaped(command.usage)}", ".PP",
+            filled(f"{command.about}.")]
+    if command.commands:
+        lead.append("Its commands:")
+    said = [paragraphs(part) for part in command.others if not part.startswith("Examples:")]
+    statuses = {f".B {status}": about for status, about in command.statuses.items()}
+    told = [*lead, words_of(command), *said, ".PP", "Exit status:", entries(statuses)]
+    return "\n".join(part for part in told if part)
 
 
-MAKERS = dict(parts())
+def paragraphs(part: str) -> str:
+    """A part of a help: paragraphs, where one begins with each option that it explains, and below
+    them lines that stand as they are, and entries."""
+    lines = part.split("\n")
+    rows = list(dropwhile(lambda line: not line.startswith(" "), lines))
+    table = list(dropwhile(lambda line: not IS_ROW.match(line), rows))
+    prose = "\n".join(lines[:len(lines) - len(rows)])
+    shown = [f".PP\n{filled(text)}" for text in re.split(r"\n(?=--[\w -]+: )", prose) if text]
+    as_they_are = textwrap.dedent("\n".join(rows[:len(rows) - len(table)])).splitlines()
+    if as_they_are:
+        shown.append("\n".join([".PP", ".EX", *map(continued, as_they_are), ".EE"]))
+    tags = {f".B {escaped(words)}": about for words, about in rows_of(table).items()}
+    return "\n".join([*shown, entries(tags)] if tags else shown)
+
+
+def continued(line: str) -> str:
+    """A line that stands as it is, in several of the page where it is too long for one."""
+    shown, lines = escaped(line), []
+    while len(shown) > COLUMNS:
+        end = shown.rindex(" ", 0, COLUMNS) + 1
+        lines.append(shown[:end] + "\\")
+        shown = shown[end:]
+    return "\n".join([*lines, shown])
+
+
+def sections(tree: Tree) -> Optional[str]:
+    """The sections of all commands but `check`, in the order of the program's help."""
+    if tree.program is None:
+        return None
+    known = commands(tree.program)
+    return "\n".join(section_of(known[name]) for name in NAMES if name != "check")
+
+
+MAKERS = {
+    "options of check": options_of_check,
+    "synopsis": synopsis,
+    "words of check": words_of_check,
+    "commands but check": sections,
+}

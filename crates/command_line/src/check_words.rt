@@ -132,10 +132,20 @@ Exit status, of many jobs the greatest of theirs:
   2  usage error, or a profile or a fleet that is refused, or a fleet that cannot be read
   3  a read or a write failed, memory ran out, no end after 2^40 reads, or too many items";
 
+const CHECK_SHORT_HELP: &str = "Usage:
+  pclcheck check JOB PROFILE..
+      the verdict on a job for these printers, as a line
+  pclcheck check -p PROFILE --format words JOB..
+      on each of many jobs, as a sentence; -p comes once for each printer
+
+What stands behind a FAIL is not judged.
+@A to @D are profiles to try with. 'pclcheck check --help' tells all.";
+
 /// The words of the command `check`.
 pub(crate) const CHECK: &CommandRow = &CommandRow {
     name: "check",
     about: "Checks jobs for a fleet of printers, and writes a line for each: PASS or FAIL",
+    short_help: CHECK_SHORT_HELP,
     explanation: EXPLANATION,
     words: &[
         WordRow {

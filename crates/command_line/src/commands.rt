@@ -15,6 +15,16 @@ use std::convert::AsStr;
 
 const VERSION: &str = "0.1.0";
 
+const EXPLAIN_SHORT_HELP: &str = "Usage:
+  pclcheck explain 12
+      what the finding of this number, or of a name, means
+  pclcheck explain '&lP'
+      what is known of a command of printers; 'explain commands' lists them
+  pclcheck explain
+      what all findings and notes mean
+
+'pclcheck explain --help' tells all.";
+
 const EXPLAIN_EXPLANATION: &str =
     "CODE is a number, or a name in any letter case; the number before it may come, too, and what stands
 behind it in brackets, as in '12 Unset(Size)'. For ERROR items it is items.
@@ -28,10 +38,25 @@ Exit status:
   2  usage error, or no fault, finding, note or command has this code
   3  a write failed, or memory ran out";
 
+const PROGRAM_SHORT_HELP: &str = "Usage: pclcheck <COMMAND>
+  check    the verdict on jobs for printers
+  survey   all that is refused of jobs, without a verdict
+  list     each command of a job
+  pages    each mark of a job on a printer
+  picture  a page of a job, drawn
+  notes    what a job that passes leaves to the printer
+  plain    a job in its one spelling
+  pin      a job that leaves nothing to the panel
+  explain  what a finding means, and what to change
+  profile  profiles: list, new, lint, show, sheet, from-pjl
+
+'pclcheck COMMAND -h' tells how a command is used, 'pclcheck --help' all.";
+
 /// The program itself.
 const PROGRAM: &CommandRow = &CommandRow {
     name: "pclcheck",
     about: "A preflight checker for PCL 5 print jobs",
+    short_help: PROGRAM_SHORT_HELP,
     explanation: EXPLANATION,
     words: &[],
     options: &[FORMAT],
@@ -42,6 +67,7 @@ const EXPLAIN: &CommandRow = &CommandRow {
     name: "explain",
     about: "Tells when a fault, finding or note comes, and what to change in the job or the \
         profile",
+    short_help: EXPLAIN_SHORT_HELP,
     explanation: EXPLAIN_EXPLANATION,
     words: &[WordRow {
         id: "CODE",

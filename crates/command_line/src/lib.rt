@@ -11,7 +11,6 @@ mod picture_words;
 mod profile_tool_words;
 mod profile_words;
 mod rows;
-mod short_helps;
 mod survey_words;
 mod text_commands;
 mod texts;

@@ -10,6 +10,14 @@ use clap::ArgMatches;
 use requests::{DrawnPages, Request, Selection};
 use std::alloc::Global;
 
+const PICTURE_SHORT_HELP: &str = "Usage:
+  pclcheck picture JOB PROFILE > page.svg
+      the first page, or with --page N another
+  pclcheck picture JOB PROFILE --all > job.html
+      all pages
+
+'pclcheck picture --help' tells all.";
+
 const PICTURE_EXPLANATION: &str =
     "Output: a page as SVG, or with --all a document of HTML with each page below one another and the
 verdict on top; it needs nothing from elsewhere, and prints a sheet a page. A page shows its sheet
@@ -40,6 +48,7 @@ Exit status:
 pub(crate) const PICTURE: &CommandRow = &CommandRow {
     name: "picture",
     about: "Draws a page of a job, from one panel setting of a printer",
+    short_help: PICTURE_SHORT_HELP,
     explanation: PICTURE_EXPLANATION,
     words: &[JOB, PROFILE],
     options: &[

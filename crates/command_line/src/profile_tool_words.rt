@@ -9,6 +9,12 @@ use clap::ArgMatches;
 use requests::Request;
 use std::alloc::{AllocError, Global};
 
+const LINT_SHORT_HELP: &str = "Usage:
+  pclcheck profile lint PROFILE..
+      the faults of each, or hints where it has none
+
+'pclcheck profile lint --help' tells all.";
+
 const LINT_EXPLANATION: &str = "Output, a line for each thing that is found:
   PROFILE:LINE: WORDS (CAUSE)  a line of the text is wrong
   PROFILE: WORDS (CAUSE)       the whole is
@@ -23,6 +29,12 @@ Exit status:
   2  a text has faults, or usage error
   3  a text could not be read, a write failed, or memory ran out";
 
+const SHOW_SHORT_HELP: &str = "Usage:
+  pclcheck profile show PROFILE
+      its panel, its device, its pages and its faces
+
+'pclcheck profile show --help' tells all.";
+
 const SHOW_EXPLANATION: &str =
     "Output, for people: what the panel may have, the device, the pages in millimetres, inches and dots of
 1/300 inch, and the faces by typeface and symbol set.
@@ -31,6 +43,12 @@ Exit status:
   0  the profile was shown, or help was asked for
   2  usage error, or the profile is refused; 'pclcheck profile lint' tells all that is wrong
   3  the text could not be read, a write failed, or memory ran out";
+
+const SHEET_SHORT_HELP: &str = "Usage:
+  pclcheck profile sheet PROFILE OUT
+      OUT is a job to print, and to measure with a ruler
+
+'pclcheck profile sheet --help' tells all.";
 
 const SHEET_EXPLANATION: &str =
     "Print OUT on the printer whose profile it is, and lay a ruler on it. The first lines of each page say
@@ -46,6 +64,14 @@ Exit status:
   0  the job was written, or help was asked for
   2  usage error, the profile is refused, or it describes a printer on which the sheet does not pass
   3  the text could not be read, a write failed, or memory ran out";
+
+const FROM_PJL_SHORT_HELP: &str = "Usage:
+  pclcheck profile from-pjl ANSWER PROFILE > front.profile
+      the profile with what the printer answered
+  pclcheck profile from-pjl ANSWER > front.profile
+      a profile of the model generic with it
+
+'pclcheck profile from-pjl --help' tells all, and how to ask the printer.";
 
 const FROM_PJL_EXPLANATION: &str =
     "ANSWER is the file with what the printer answers, or - for standard input. To ask it:
@@ -67,6 +93,7 @@ Exit status:
 pub(crate) const PROFILE_LINT: &CommandRow = &CommandRow {
     name: "lint",
     about: "Tells all that is wrong with profiles, and gives hints",
+    short_help: LINT_SHORT_HELP,
     explanation: LINT_EXPLANATION,
     words: &[WordRow {
         id: "PROFILE",
@@ -81,6 +108,7 @@ pub(crate) const PROFILE_LINT: &CommandRow = &CommandRow {
 pub(crate) const PROFILE_SHOW: &CommandRow = &CommandRow {
     name: "show",
     about: "Shows a profile to people",
+    short_help: SHOW_SHORT_HELP,
     explanation: SHOW_EXPLANATION,
     words: &[PROFILE],
     options: &[],
@@ -90,6 +118,7 @@ pub(crate) const PROFILE_SHOW: &CommandRow = &CommandRow {
 pub(crate) const PROFILE_SHEET: &CommandRow = &CommandRow {
     name: "sheet",
     about: "Writes a job to print, by which a printer is compared with its profile",
+    short_help: SHEET_SHORT_HELP,
     explanation: SHEET_EXPLANATION,
     words: &[PROFILE, OUT],
     options: &[],
@@ -99,6 +128,7 @@ pub(crate) const PROFILE_SHEET: &CommandRow = &CommandRow {
 pub(crate) const PROFILE_FROM_PJL: &CommandRow = &CommandRow {
     name: "from-pjl",
     about: "Writes the text of a profile after a printer's own answer",
+    short_help: FROM_PJL_SHORT_HELP,
     explanation: FROM_PJL_EXPLANATION,
     words: &[
         WordRow {

@@ -10,6 +10,16 @@ use printer_models::{FixedFields, PanelLists};
 use requests::{NewProfile, Request};
 use std::alloc::{AllocError, Global};
 
+const PROFILE_SHORT_HELP: &str = "Usage: pclcheck profile <COMMAND>
+  list      the models of printers, and their papers
+  new       a profile of a model
+  lint      what is wrong with profiles
+  show      what a profile says, for people
+  sheet     a job by which a printer is compared with its profile
+  from-pjl  a printer's own answer, put into a profile
+
+'pclcheck profile COMMAND -h' tells how a command is used.";
+
 const PROFILE_EXPLANATION: &str = "Examples:
   pclcheck profile list
       the models, by their names, and the papers that each can have
@@ -33,6 +43,12 @@ Exit status:
   2  usage error, no such model, a paper that is wrong for it, or a profile with faults
   3  a read or a write failed, memory ran out, or the program's own tables and text do not agree";
 
+const LIST_SHORT_HELP: &str = "Usage:
+  pclcheck profile list
+      a line for each model
+
+'pclcheck profile list --help' tells all.";
+
 const LIST_EXPLANATION: &str = "Output, a line for each model:
   MODEL: TITLE; papers: PAPER..
 
@@ -45,6 +61,15 @@ Exit status:
   0  the models were written, or help was asked for
   2  usage error
   3  a write failed, or memory ran out";
+
+const NEW_SHORT_HELP: &str = "Usage:
+  pclcheck profile new MODEL --size a4,letter > front.profile
+      a printer whose panel nobody changes
+  pclcheck profile new MODEL --panel free --fixed copies,sides > front.profile
+      one whose panel people change, but for copies and sides
+
+'pclcheck profile list' names models and papers; 'pclcheck profile new --help'
+tells all.";
 
 const NEW_EXPLANATION: &str = "Examples:
   pclcheck profile new hp-laserjet-4250 > front.profile
@@ -86,6 +111,7 @@ const FIELDS: &[&str] = &[
 pub(crate) const PROFILE_COMMANDS: &CommandRow = &CommandRow {
     name: "profile",
     about: "Makes, checks and shows profiles of printers",
+    short_help: PROFILE_SHORT_HELP,
     explanation: PROFILE_EXPLANATION,
     words: &[],
     options: &[],
@@ -95,6 +121,7 @@ pub(crate) const PROFILE_COMMANDS: &CommandRow = &CommandRow {
 pub(crate) const PROFILE_LIST: &CommandRow = &CommandRow {
     name: "list",
     about: "Lists the models of which there are profiles, and their papers",
+    short_help: LIST_SHORT_HELP,
     explanation: LIST_EXPLANATION,
     words: &[],
     options: &[],
@@ -104,6 +131,7 @@ pub(crate) const PROFILE_LIST: &CommandRow = &CommandRow {
 pub(crate) const PROFILE_NEW: &CommandRow = &CommandRow {
     name: "new",
     about: "Writes the text of a profile of a model",
+    short_help: NEW_SHORT_HELP,
     explanation: NEW_EXPLANATION,
     words: &[WordRow {
         id: "MODEL",

@@ -9,6 +9,8 @@ pub(crate) struct CommandRow {
     pub name: &'static str,
     /// What it does.
     pub about: &'static str,
+    /// What `-h` writes below that, fifteen lines at most: how it is used mostly.
+    pub short_help: &'static str,
     /// What help says below all else.
     pub explanation: &'static str,
     pub words: &'static [WordRow],

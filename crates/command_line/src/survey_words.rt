@@ -9,6 +9,12 @@ use clap::ArgMatches;
 use requests::{Form, Request};
 use std::alloc::{AllocError, Global};
 
+const SHORT_HELP: &str = "Usage:
+  pclcheck survey JOB..
+      a line for each kind of command that is refused, and how often
+
+'pclcheck survey --help' tells all.";
+
 const EXPLANATION: &str =
     "It gives no verdict: a job of which nothing is refused may fail, which check tells. Behind what is
 refused it goes on, and passes data over by the lengths that HP's manuals give. It is for who wants
@@ -36,6 +42,7 @@ Exit status:
 pub(crate) const SURVEY: &CommandRow = &CommandRow {
     name: "survey",
     about: "Tells all that is refused of jobs, each kind of command once, and gives no verdict",
+    short_help: SHORT_HELP,
     explanation: EXPLANATION,
     words: &[WordRow {
         id: "JOB",

@@ -9,6 +9,13 @@ use clap::ArgMatches;
 use requests::Request;
 use std::alloc::Global;
 
+const LIST_SHORT_HELP: &str = "Usage:
+  pclcheck list JOB
+      a line for each command: its byte, and how it is spelled
+
+What stands behind a FAULT is not read.
+'pclcheck list --help' tells all.";
+
 const LIST_EXPLANATION: &str = "Output, a line for each item:
   PLACE SPELLING           the number of bytes before the item, and its canonical spelling, in which
                            each byte that shows nothing, and the backslash, is \\x and two digits
@@ -20,6 +27,12 @@ Exit status:
   1  the bytes are wrong, or are not checked, as the last line tells
   2  usage error
   3  a read or a write failed, memory ran out, or no end after 2^40 reads";
+
+const PAGES_SHORT_HELP: &str = "Usage:
+  pclcheck pages JOB PROFILE
+      a line for each mark, and for the end of each page
+
+'pclcheck pages --help' tells all.";
 
 const PAGES_EXPLANATION: &str =
     "Output, a line for each mark, and one for the end of each page; lengths and places are ticks of
@@ -43,6 +56,14 @@ Exit status:
   2  usage error, or the profile is refused
   3  a read or a write failed, memory ran out, or no end after 2^40 reads";
 
+const NOTES_SHORT_HELP: &str = "Usage:
+  pclcheck notes JOB PROFILE
+      a line for each note: its byte, its number and its name
+  pclcheck check -p PROFILE --notes --format words JOB..
+      the notes of many jobs, below their verdicts
+
+'pclcheck notes --help' tells all.";
+
 const NOTES_EXPLANATION: &str =
     "A note tells what a job that passes leaves to the printer, or to the jobs before and behind it. Each
 is told once, where it holds first, for the first value that the profile lists of each field. Where
@@ -58,6 +79,13 @@ Exit status:
   2  usage error, or the profile is refused
   3  a read or a write failed, memory ran out, or no end after 2^40 reads";
 
+const PLAIN_SHORT_HELP: &str = "Usage:
+  pclcheck plain JOB OUT
+      OUT is the job in its one spelling
+
+What stands behind a FAIL is not written.
+'pclcheck plain --help' tells all.";
+
 const PLAIN_EXPLANATION: &str =
     "Once JOB is open its text is written beside OUT, and takes the place of OUT when it is whole: after
 an error OUT is as it was. A device or a pipe is written itself. An OUT that is JOB, under whichever
@@ -72,6 +100,15 @@ Exit status:
   1  the bytes are wrong, or are not checked
   2  usage error
   3  a read or a write failed, memory ran out, or no end after 2^40 reads";
+
+const PIN_SHORT_HELP: &str = "Usage:
+  pclcheck pin JOB PROFILE OUT
+      OUT sets the first value of each field that the job leaves to the panel
+  pclcheck pin JOB PROFILE OUT --panel size=26,tray=1
+      OUT sets these values
+
+What stands behind a FAIL is not written.
+'pclcheck pin --help' tells all.";
 
 const PIN_EXPLANATION: &str =
     "What is written prints from every panel setting of the printer as JOB does from one of them: the
@@ -126,6 +163,7 @@ pub(crate) const OUT: WordRow = WordRow {
 pub(crate) const LIST: &CommandRow = &CommandRow {
     name: "list",
     about: "Lists the items of a job: each command, control code and byte of text",
+    short_help: LIST_SHORT_HELP,
     explanation: LIST_EXPLANATION,
     words: &[JOB],
     options: &[],
@@ -135,6 +173,7 @@ pub(crate) const LIST: &CommandRow = &CommandRow {
 pub(crate) const PAGES: &CommandRow = &CommandRow {
     name: "pages",
     about: "Writes what a job marks on its pages, from the first panel setting of a printer",
+    short_help: PAGES_SHORT_HELP,
     explanation: PAGES_EXPLANATION,
     words: &[JOB, PROFILE],
     options: &[],
@@ -144,6 +183,7 @@ pub(crate) const PAGES: &CommandRow = &CommandRow {
 pub(crate) const NOTES: &CommandRow = &CommandRow {
     name: "notes",
     about: "Tells what a job leaves to a printer, though it passes",
+    short_help: NOTES_SHORT_HELP,
     explanation: NOTES_EXPLANATION,
     words: &[JOB, PROFILE],
     options: &[],
@@ -153,6 +193,7 @@ pub(crate) const NOTES: &CommandRow = &CommandRow {
 pub(crate) const PLAIN: &CommandRow = &CommandRow {
     name: "plain",
     about: "Writes a job again, with each item in its canonical spelling",
+    short_help: PLAIN_SHORT_HELP,
     explanation: PLAIN_EXPLANATION,
     words: &[JOB, OUT],
     options: &[],
@@ -162,6 +203,7 @@ pub(crate) const PLAIN: &CommandRow = &CommandRow {
 pub(crate) const PIN: &CommandRow = &CommandRow {
     name: "pin",
     about: "Writes a job again, pinned to one panel setting of a printer",
+    short_help: PIN_SHORT_HELP,
     explanation: PIN_EXPLANATION,
     words: &[JOB, PROFILE, OUT],
     options: &[OptionRow {

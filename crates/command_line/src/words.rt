@@ -10,7 +10,6 @@ use crate::form_words::form_asked;
 use crate::panel_words::ChoiceFault;
 use crate::picture_words::picture_request;
 use crate::profile_words::profile_request;
-use crate::short_helps::short_help;
 use crate::survey_words::survey_request;
 use crate::text_commands::{pin_request, text_request};
 use crate::word::{Word, first_stand_in, first_without_text, is_stand_in, without_zeros};
@@ -253,10 +252,11 @@ fn write_short_help<O: Outlet>(name: CommandName, stdout: &mut O) -> Status
     ensures end { IsEndOfWords result }
     ensures no_usage { result ≢ Status.Usage }
 {
+    let row = name.row();
     let pieces: [&[u8]; 4] = [
-        name.row().about.as_bytes(),
+        row.about.as_bytes(),
         b"\n\n",
-        short_help(name).as_bytes(),
+        row.short_help.as_bytes(),
         b"\n",
     ];
     match write_pieces(stdout, &pieces) {

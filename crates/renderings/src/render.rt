@@ -1,18 +1,15 @@
 //! Renders the items of a job one after another, as they are read.
-ghost use Rattle.std.specs.Prelude.{◌≡◌, ◌+◌, ℕ, List, [], length, None, Ok, IfOk, IfErr, IsFalse};
-ghost use Rattle.std.specs.Prelude.{false};
+ghost use Rattle.std.specs.Prelude.{◌≡◌, ℕ, [], IfOk, IfErr, IsFalse};
 ghost use Rattle.pcl_items.specs.declared.fault.LexCause.{LexCause};
 ghost use Rattle.pcl_items.specs.declared.item.Mode.{Mode};
 ghost use Rattle.pcl_items.specs.declared.item.Mode.TheVariants.{Pcl};
 ghost use Rattle.pcl_items.specs.Items.{at, view};
-ghost use Rattle.pcl_lexer.specs.Lexing.State.{WantsMore};
 ghost use Rattle.pcl_lexer.specs.Modes.{mode_of};
 ghost use Rattle.pcl_lexer.specs.Reading.{Whole, Stopped};
 ghost use Rattle.renderings.specs.Due.{IsOver, Renders, Rendering};
 ghost use Rattle.streams.specs.Errors.{is_err_of_write};
-ghost use Rattle.streams.specs.Outlet.{OutletState};
-ghost use Rattle.renderings.specs.Carriers.Rendering.{MayCome, RenderedTo, Ended, StaysIn};
-ghost use Rattle.renderings.specs.Carriers.Rendering.{HasRendered, IsErrorOfRendering, RendersItem};
+ghost use Rattle.renderings.specs.Carriers.Rendering.{MayCome, RendersItem, Ended, StaysIn};
+ghost use Rattle.renderings.specs.Carriers.Rendering.{RendersDecided, GoesOn, IsErrorOfRendering};
 ghost use Rattle.renderings.specs.Carriers.Rendered.{CanRender, IsCutOff, IsRendered, RendersOn};
 
 use crate::outcome::Outcome;
@@ -118,16 +115,10 @@ fn render_items<R: Renderer, W: Outlet, A: Allocator>(
 ) -> Result<Option<Outcome>, Error>
     requires working { IsFalse (W.state outlet.old).failed }
     requires mode { R.is_in renderer.old (mode_of lexer.old.context) }
-    ensures came { (first : Rendering) (start : OutletState) (bytes : List ℕ) →
-        HasRendered first start bytes lexer.old (R.rendering renderer.old)
-        (W.state outlet.old) kept.old.items → total ≡ length bytes →
-        RenderedTo first start lexer.old.ended bytes lexer.new (R.rendering renderer.new)
-        (W.state outlet.new) kept.new.items result }
-    ensures goes_on { result ≡ Ok None → (lexer.old.ended ≡ false) × WantsMore lexer.new
-        × R.is_in renderer.new (mode_of lexer.new.context) }
-    ensures ended { lexer.new.ended ≡ lexer.old.ended }
-    ensures place { lexer.new.place + length lexer.new.rest ≡
-        lexer.old.place + length lexer.old.rest }
+    ensures came { RendersDecided lexer.old lexer.new total result
+        (R.rendering renderer.old) (R.rendering renderer.new)
+        (W.state outlet.old) (W.state outlet.new) kept.old.items kept.new.items }
+    ensures read { GoesOn (R.is_in renderer.new) lexer.old lexer.new result }
     ensures status { (W.state outlet.new).failed ≡ is_err_of_write result }
     ensures err { IfErr result IsErrorOfRendering }
 {
@@ -178,18 +169,11 @@ impl<R: Renderer, A: Allocator> JobRenderer<'_, R, A> {
     fn render_decided<W: Outlet>(&mut self, outlet: &mut W) -> Result<Option<Outcome>, Error>
         requires working { IsFalse (W.state outlet.old).failed }
         requires mode { R.is_in self.old.renderer.now (mode_of self.old.lexer.context) }
-        ensures came { (first : Rendering) (start : OutletState) (bytes : List ℕ) →
-            HasRendered first start bytes self.old.lexer (R.rendering self.old.renderer.now)
-            (W.state outlet.old) self.old.kept.items → self.old.total ≡ length bytes →
-            RenderedTo first start self.old.lexer.ended bytes self.new.lexer
-            (R.rendering self.new.renderer.now) (W.state outlet.new) [] result }
+        ensures came { RendersDecided self.old.lexer self.new.lexer self.old.total result
+            (R.rendering self.old.renderer.now) (R.rendering self.new.renderer.now)
+            (W.state outlet.old) (W.state outlet.new) self.old.kept.items [] }
         ensures kept { IfOk result (λ _. self.new.kept.items ≡ []) }
-        ensures goes_on { result ≡ Ok None → (self.old.lexer.ended ≡ false)
-            × WantsMore self.new.lexer × R.is_in self.new.renderer.now
-            (mode_of self.new.lexer.context) }
-        ensures ended { self.new.lexer.ended ≡ self.old.lexer.ended }
-        ensures place { self.new.lexer.place + length self.new.lexer.rest ≡
-            self.old.lexer.place + length self.old.lexer.rest }
+        ensures read { GoesOn (R.is_in self.new.renderer.now) self.old.lexer self.new.lexer result }
         ensures total { self.new.total ≡ self.old.total }
         ensures status { (W.state outlet.new).failed ≡ is_err_of_write result }
         ensures err { IfErr result IsErrorOfRendering }

@@ -1,12 +1,14 @@
 -- How the items of a job are rendered one after another: what was put of the text that is due, and what is still due.
-use Rattle.std.specs.Prelude.{◌≡◌, ℕ, List, [], ◌∷◌, ◌++◌, Bool, Option, None, Some, IsSome, Result, Ok, Err}
+use Rattle.std.specs.Prelude.{◌≡◌, ◌+◌, ℕ, List, [], ◌∷◌, ◌++◌, length, Bool, false, Option, None, Some, IsSome}
+use Rattle.std.specs.Prelude.{Result, Ok, Err}
 use Rattle.pcl_items.specs.declared.fault.LexCause.{LexCause}
 use Rattle.pcl_items.specs.declared.item.Mode.{Mode}
 use Rattle.pcl_items.specs.Modes.{follows}
 use Rattle.pcl_items.specs.Items.{Entry, Placed}
 use Rattle.pcl_lexer.specs.Reading.{Reading, IsReading, with_item}
-use Rattle.pcl_lexer.specs.Lexing.State.{LexerState}
+use Rattle.pcl_lexer.specs.Lexing.State.{LexerState, WantsMore}
 use Rattle.pcl_lexer.specs.Lexing.Meaning.{HasRead, MayBe, Undecided}
+use Rattle.pcl_lexer.specs.Modes.{mode_of}
 use Rattle.streams.specs.declared.error.Error.{Error}
 use Rattle.streams.specs.declared.error.Error.TheVariants.{Memory, Read, Write, Turns, NoProfile, Items}
 use Rattle.renderings.specs.declared.outcome.Outcome.{Outcome}
@@ -99,6 +101,23 @@ RenderedTo first start ended bytes lexer rendering written kept (Ok None) =
 RenderedTo first start ended bytes lexer rendering written kept (Ok (Some outcome)) =
     HasEnded first start ended bytes written kept outcome
 RenderedTo first start ended bytes lexer rendering written kept (Err e) = IsFrontFor first start written bytes
+
+-- Of every job: where the items that were read of its bytes were rendered so far, and the bytes are so many, the
+-- rendering of all items that they decide came to this.
+abbrev pub RendersDecided : LexerState → LexerState → ℕ → Result (Option Outcome) Error → Rendering → Rendering →
+    OutletState → OutletState → List ℕ → List ℕ → Type 0
+RendersDecided lexer lexer' total result before after written written' kept kept' =
+    (first : Rendering) (start : OutletState) (bytes : List ℕ) →
+    HasRendered first start bytes lexer before written kept → total ≡ length bytes →
+    RenderedTo first start lexer.ended bytes lexer' after written' kept' result
+
+-- The lexer reads on in the same bytes. Where all that they decide was rendered, more may come, and the renderer is in
+-- the mode in which these are read.
+pub record GoesOn (is_in : Mode → Type 0) (lexer lexer' : LexerState)
+    (result : Result (Option Outcome) Error) : Type 0 where
+  pub goes_on : result ≡ Ok None → (lexer.ended ≡ false) × WantsMore lexer' × is_in (mode_of lexer'.context)
+  pub ended : lexer'.ended ≡ lexer.ended
+  pub place : lexer'.place + length lexer'.rest ≡ lexer.place + length lexer.rest
 
 -- an error of what is done with an item
 abbrev pub IsErrorOfRendering : Error → Type 0

@@ -63,11 +63,11 @@ returns g c = λ first bytes h.
     rendered_piece Goes RendersItem Stops first (new, c.render_decided.new.outlet) (g.R.Renderer.rendering first.0.renderer.now) start
     new.lexer (g.R.Renderer.rendering new.renderer.now) (g.W.Outlet.state c.render_decided.new.outlet)
     (g.R.Renderer.is_in new.renderer.now) new.kept.items first.0.total new.total bytes piece (λ t. t) (λ outcome pieces t. t) (λ error t. t)
-    h.begun (omega (arith, went.total, h.total_is, length-append bytes piece)) (went.ended ∙ not_ended)
-    (omega (arith, went.place, place, length-append old.lexer.rest piece, h.fed, went.total)) c.render_decided.result
+    h.begun (omega (arith, went.total, h.total_is, length-append bytes piece)) (went.read.ended ∙ not_ended)
+    (omega (arith, went.read.place, place, length-append old.lexer.rest piece, h.fed, went.total)) c.render_decided.result
     (subst
     (λ e. RenderedTo (g.R.Renderer.rendering first.0.renderer.now) start e (bytes ++ piece) new.lexer
     (g.R.Renderer.rendering new.renderer.now) (g.W.Outlet.state c.render_decided.new.outlet) [] c.render_decided.result)
     not_ended
     (went.came (g.R.Renderer.rendering first.0.renderer.now) start (bytes ++ piece) rendered total))
-    went.kept (λ is. ((went.goes_on is).1, (went.goes_on is).2)) went.status went.err
+    went.kept (λ is. ((went.read.goes_on is).1, (went.read.goes_on is).2)) went.status went.err
