@@ -10,8 +10,8 @@ use Rattle.device_profile.specs.Text.{draft_of}
 
 -- the draft is what the line gives, or it is as it was before and the answer is why the line is wrong
 abbrev pub Gives : Result Draft Cause → Draft → Result (Unit {0}) LineFault → Draft → Type 0
-Gives given before result after =
-    MatchResult result (λ _. given ≡ Ok after) (λ fault. IsCauseOf given fault × (after ≡ before))
+Gives given old result new =
+    MatchResult result (λ _. given ≡ Ok new) (λ fault. IsCauseOf given fault × (new ≡ old))
 
 -- the fault that is given, or that memory was wanted
 abbrev pub IsFaultOf : {X : Type 0} → Result X ProfileFault → ProfileFault → Type 0

@@ -6,8 +6,8 @@ use Rattle.profile_commands.specs.ProfileFromPjl.{AsksBaseIfAny, LeavesAnswered}
 use Rattle.profile_commands.specs.ProfileLint.{LeavesLint}
 use Rattle.profile_commands.specs.ProfileSheet.{LeavesSheet}
 use Rattle.profile_commands.specs.ProfileShow.{LeavesShown}
-use Rattle.picture_command.specs.Picture.{Around, HasNoEnd, IsNamedBy, LeavesPicture}
-use Rattle.renderings.specs.Due.{Rendering, plain_rendering}
+use Rattle.picture_command.specs.Picture.{BeforeAndAfter, HasNoEnd, IsNamedBy, LeavesPicture}
+use Rattle.renderings.specs.Expected.{Rendering, plain_rendering}
 use Rattle.streams.specs.declared.error.Error.TheVariants.{Turns}
 use Rattle.streams.proofs.Uses.{one_behind, one_more, one_read, one_written, others_behind, texts_read}
 use Rattle.streams.specs.Ended.{JobRead}
@@ -351,7 +351,7 @@ reads_stop true second text stops is failed = sym is
 reads_stop false true text stops is failed = sym is
 reads_stop false false text stops is failed = cc
 
-abbrev around : (first first' second second' : SourceState) (out out' err err' : OutletState) → Around
+abbrev around : (first first' second second' : SourceState) (out out' err err' : OutletState) → BeforeAndAfter
 around first first' second second' out out' err err' = record {
   first = first;
   first' = first';

@@ -3,7 +3,7 @@
 -- It has those of a job, of OUT and of the texts of profiles.
 use Rattle.std.specs.Prelude.{◌≡◌, ◌⊎◌, ◌||◌, [], ◌∷◌, ◌++◌, ℕ, Bool, List, Option, IsTrue, codes, map}
 use Rattle.streams.specs.declared.error.Error.TheVariants.{Turns}
-use Rattle.renderings.specs.Due.{Rendering, plain_rendering}
+use Rattle.renderings.specs.Expected.{Rendering, plain_rendering}
 use Rattle.streams.specs.Ended.{JobRead}
 use Rattle.streams.specs.Files.{no_outlet, no_source}
 use Rattle.streams.specs.Outlet.{OutletState}

@@ -1,6 +1,6 @@
 //! What the program does on texts of a job by request, on files. A history is kept of which files
 //! that were.
-ghost use Rattle.renderings.specs.Due.{list_rendering};
+ghost use Rattle.renderings.specs.Expected.{list_rendering};
 ghost use Rattle.std.specs.Prelude.{◌≢◌, [], IsFalse, map};
 ghost use Rattle.file_requests.specs.JobRequests.{LeavesCheck, LeavesNotesFor, LeavesPagesFor};
 ghost use Rattle.file_requests.specs.JobRequests.{LeavesPictureFor, LeavesPin, LeavesPlain};

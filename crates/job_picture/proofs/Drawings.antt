@@ -15,7 +15,7 @@ use Rattle.page_machine.specs.Run.{Peaks, Run, just, after, Ending, Done, Halts}
 use Rattle.page_machine.specs.MachineState.{MachineState}
 use Rattle.page_machine.specs.Machine.{IsNew, item_of, end_of}
 use Rattle.renderings.specs.declared.outcome.Outcome.TheVariants.{Done as AllDone, Fail}
-use Rattle.renderings.specs.Due.{Rendering}
+use Rattle.renderings.specs.Expected.{Rendering}
 use Rattle.renderings.specs.Carriers.PageRendering.{any_panel}
 use Rattle.renderings.specs.Carriers.Rendering.{RestGoesOn, EndsWith, BeginsWith, StartsWith}
 use Rattle.verdict.specs.declared.reason.Reason.TheVariants.{Finding as FindingOfRun}

@@ -122,7 +122,7 @@ module _ {W A : Type 0} (state : W → OutletState) where
     pub draws_refused : Refuses (TakesPart state) (RefusesPart state) old new run →
         DrawsFront old.sheet (run any_panel) (state old.outlet.now) (state new.outlet.now) old.kept.now.items old.progress
     draws_refused refused =
-        let took = refused.before in
+        let took = refused.took in
         let led = led_all old refused.mid took.events working took.leads in
         record {
           events = took.events ++ refused.event ∷ [];

@@ -16,7 +16,7 @@ use Rattle.page_machine.specs.Defining.{job_item_run, job_end_run, macros_after}
 use Rattle.page_machine.specs.Job.{with_macros}
 use Rattle.renderings.specs.declared.outcome.Outcome.{Outcome}
 use Rattle.renderings.specs.declared.outcome.Outcome.TheVariants.{Done as AllDone}
-use Rattle.renderings.specs.Due.{Rendering}
+use Rattle.renderings.specs.Expected.{Rendering}
 use Rattle.renderings.specs.Outcomes.{fails_with}
 use Rattle.verdict.specs.Failing.{fault_at, found_at}
 use Rattle.job_picture.specs.declared.progress.Progress.{Progress}

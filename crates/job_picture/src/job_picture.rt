@@ -5,7 +5,7 @@ ghost use Rattle.page_env.specs.Places.{geometry_of};
 ghost use Rattle.page_env.specs.Settings.{state_at};
 ghost use Rattle.renderings.specs.Carriers.PageRendering.{any_panel};
 ghost use Rattle.renderings.specs.Carriers.Rests.{faults_matter};
-ghost use Rattle.renderings.specs.Due.{Renders};
+ghost use Rattle.renderings.specs.Expected.{Renders};
 ghost use Rattle.job_picture.specs.Carriers.Rest.{drawn_from};
 ghost use Rattle.job_picture.specs.JobPicture.{late_end, picture_rendering};
 ghost use Rattle.job_picture.specs.Sheet.{drawn_failure, end_of_all, sheet_of, start_if_due};

@@ -16,9 +16,9 @@ use Rattle.page_env.specs.declared.finding.Finding.TheVariants.{BadValue, NotOnD
 use Rattle.verdict.specs.declared.reason.Reason.TheVariants.{Fault, Finding}
 use Rattle.verdict.specs.declared.verdict.Verdict.TheVariants.{Fail, Pass}
 use Rattle.command_names.specs.CommandNames.{table, texts_of}
-use Rattle.preflight.specs.declared.culprit.Culprit.{Culprit}
-use Rattle.preflight.specs.declared.culprit.Culprit.TheVariants.{Simple}
-use Rattle.preflight.specs.declared.culprit.Judgement.{Judgement}
+use Rattle.preflight.specs.declared.failing_item.FailingItem.{FailingItem}
+use Rattle.preflight.specs.declared.failing_item.FailingItem.TheVariants.{Simple}
+use Rattle.preflight.specs.declared.failing_item.Judgement.{Judgement}
 use Rattle.shown_bytes.specs.Lengths.{millimetres, signed_hundredths}
 use Rattle.shown_bytes.specs.Shown.{shown_text}
 use Rattle.streams.specs.declared.error.Error.{Error}
@@ -41,13 +41,13 @@ report_of is_each answer cause = record {
 }
 
 abbrev passed : Result Judgement Error
-passed = Ok (record { verdict = Pass 1 22; culprit = None; page = None; cursor = None; font = None })
+passed = Ok (record { verdict = Pass 1 22; failing_item = None; page = None; cursor = None; font = None })
 
 -- the second printer has no page of this size
 abbrev refused : Result Judgement Error
 refused = Ok (record {
   verdict = Fail 134 2 (Finding NotOnDevice);
-  culprit = Some (Simple (Parameterized PageSize (record { sign = Absent; ten_thousandths = 20000; within = lit≤ tt })));
+  failing_item = Some (Simple (Parameterized PageSize (record { sign = Absent; ten_thousandths = 20000; within = lit≤ tt })));
   page = Some 2;
   cursor = None;
   font = None;
@@ -55,7 +55,7 @@ refused = Ok (record {
 
 -- the bytes are wrong, whatever the printer
 abbrev faulty : Result Judgement Error
-faulty = Ok (record { verdict = Fail 9 0 (Fault Syntax); culprit = None; page = Some 1; cursor = None; font = None })
+faulty = Ok (record { verdict = Fail 9 0 (Fault Syntax); failing_item = None; page = Some 1; cursor = None; font = None })
 
 abbrev gone : Option (List ℕ)
 gone = Some (codes "No such file or directory")
@@ -90,7 +90,7 @@ sentence_of_finding = refl
 abbrev placed : Result Judgement Error
 placed = Ok (record {
   verdict = Fail 9 1 (Finding NotOnDevice);
-  culprit = None;
+  failing_item = None;
   page = Some 1;
   cursor = Some (record { x = pos 45_720_000_000; y = pos 54_864_000_000 });
   font = None;
@@ -108,13 +108,13 @@ unfolding shown_text is_utf8 chars encode_utf8 digits
 sentence_of_fault = refl
 
 -- pclcheck does not check proportional spacing, which the manual has; a minus before the value is wrong anyway
-abbrev spaced : Sign → Option Culprit
+abbrev spaced : Sign → Option FailingItem
 spaced sign = Some (Simple (Parameterized FontSpacing (record { sign = sign; ten_thousandths = 10000; within = lit≤ tt })))
 
-abbrev failing_at : Option Culprit → Result Judgement Error
-failing_at culprit = Ok (record {
+abbrev failing_at : Option FailingItem → Result Judgement Error
+failing_at failing_item = Ok (record {
   verdict = Fail 7 1 (Finding BadValue);
-  culprit = culprit;
+  failing_item = failing_item;
   page = Some 1;
   cursor = None;
   font = None;
@@ -130,7 +130,7 @@ sentence_of_unchecked = refl
 abbrev unchecked : Result Judgement Error
 unchecked = Ok (record {
   verdict = Fail 7 0 (Fault (NotInProfile (Command Layout 80)));
-  culprit = None;
+  failing_item = None;
   page = Some 1;
   cursor = None;
   font = None;

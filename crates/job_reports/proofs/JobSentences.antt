@@ -39,14 +39,14 @@ use Rattle.line_words.specs.Reason.{short_finding, short_reason, named_byte}
 use Rattle.shown_bytes.specs.Decimals.{digit, magnitude_text, with_hundredths}
 use Rattle.shown_bytes.specs.Lengths.{millimetres, signed_hundredths}
 use Rattle.shown_bytes.specs.Shown.{shown, shown_byte, shown_text}
-use Rattle.preflight.specs.declared.culprit.Culprit.{Culprit}
-use Rattle.preflight.specs.declared.culprit.Culprit.TheVariants.{Text, Simple, WithData, Line}
-use Rattle.preflight.specs.declared.culprit.Judgement.{Judgement}
-use Rattle.preflight.specs.declared.culprit.SheetSpot.{SheetSpot}
+use Rattle.preflight.specs.declared.failing_item.FailingItem.{FailingItem}
+use Rattle.preflight.specs.declared.failing_item.FailingItem.TheVariants.{Text, Simple, WithData, Line}
+use Rattle.preflight.specs.declared.failing_item.Judgement.{Judgement}
+use Rattle.preflight.specs.declared.failing_item.SheetSpot.{SheetSpot}
 use Rattle.streams.specs.declared.error.Error.{Error}
 use Rattle.streams.specs.declared.error.Error.TheVariants.{Memory, Read, Write, Turns, NoProfile, Items}
 use Rattle.job_reports.specs.CommandWords.{code_words, command_words}
-use Rattle.job_reports.specs.JobSentences.{AreNumbers, IsCulpritOfNumbers, IsOfParts, IsPageOfNumber, IsSentence, IsVerdictOfNumbers}
+use Rattle.job_reports.specs.JobSentences.{AreNumbers, IsFailingItemOfNumbers, IsOfParts, IsPageOfNumber, IsSentence, IsVerdictOfNumbers}
 use Rattle.job_reports.specs.JobSentences.{IsSpotOfNumbers, IsWithin, left_phrase, on_page, on_sheet, place_phrase}
 use Rattle.job_reports.specs.JobSentences.{answer_phrase, at_command, cause_phrase, claim_by, error_phrase, fails_where, few_words}
 use Rattle.job_reports.specs.JobSentences.{first_of, for_each, for_printer, is_bad_value, job_claim, job_sentence, last_of, named_first}
@@ -60,7 +60,7 @@ use Rattle.job_reports.specs.declared.kind.Kind.{Kind}
 use Rattle.job_reports.specs.declared.kind.Kind.TheVariants as kinds
 use Rattle.job_reports.specs.declared.left_out.LeftOut.{LeftOut}
 use Rattle.job_reports.specs.declared.left_out.LeftOut.TheVariants as left_outs
-use Rattle.job_reports.specs.Reports.{Reported, culprit_of, cursor_of, number_told, page_of, verdict_told}
+use Rattle.job_reports.specs.Reports.{Reported, failing_item_of, cursor_of, number_told, page_of, verdict_told}
 use Rattle.requests.specs.Status.{error_words}
 use Rattle.job_reports.proofs.Within.{code_part, decimal_part, escaped_part, first_part, flat_part, joined, last_part, literal, name_at}
 use Rattle.job_reports.proofs.Within.{name_shown, named_part, nothing, one_of, short_decimal_part, shown_byte_part, shown_part, wider}
@@ -127,16 +127,16 @@ counting_part RasterRow count h =
     wider 144 _ (omega arith)
     (joined (codes "ESC *b") _ (literal 6 _ refl refl) (joined (decimal count) (87 ∷ []) (decimal_part count h) (literal 1 _ refl refl)))
 
-command_part : (culprit : Culprit) → IsCulpritOfNumbers (Some culprit) → IsWithin 144 (command_words culprit)
+command_part : (failing_item : FailingItem) → IsFailingItemOfNumbers (Some failing_item) → IsWithin 144 (command_words failing_item)
 command_part (Text code) h =
     wider 144 _ (omega arith) (joined (codes "character ") (escaped_byte code) (literal 10 _ refl refl) (escaped_part code))
 command_part (Simple item) h = simple_part item
 command_part (WithData command count) h = counting_part command count h
 command_part Line h = literal 144 _ refl refl
 
-at_part : (culprit : Option Culprit) → IsCulpritOfNumbers culprit → IsWithin 146 (at_command culprit)
+at_part : (failing_item : Option FailingItem) → IsFailingItemOfNumbers failing_item → IsWithin 146 (at_command failing_item)
 at_part None h = nothing 146
-at_part (Some culprit) h = joined (codes ", ") (command_words culprit) (literal 2 _ refl refl) (command_part culprit h)
+at_part (Some failing_item) h = joined (codes ", ") (command_words failing_item) (literal 2 _ refl refl) (command_part failing_item h)
 
 -- ---- the name of what is not checked
 
@@ -338,37 +338,38 @@ value_phrase_part left_out =
 
 -- ---- what fails, and why
 
-module _ (front : List ℕ) (culprit : Option Culprit) (f : IsWithin 132 front) (h : IsCulpritOfNumbers culprit) where
+module _ (front : List ℕ) (failing_item : Option FailingItem) (f : IsWithin 132 front) (h : IsFailingItemOfNumbers failing_item) where
   abbrev failure : Reason → List ℕ
   failure reason =
-      front ++ what_fails (at_command culprit) (value_key culprit) reason ++ reason_phrase (left_out_of culprit) reason
+      front ++ what_fails (at_command failing_item) (value_key failing_item) reason ++ reason_phrase (left_out_of failing_item) reason
 
   -- behind a name that is so long a reason that is so long
-  named_failure : {m n : ℕ} (reason : Reason) → m + n ≤ 140 → IsWithin m (called (refused_name (value_key culprit) reason)) →
-      IsWithin n (reason_phrase (left_out_of culprit) reason) → IsWithin 418 (failure reason)
+  named_failure : {m n : ℕ} (reason : Reason) → m + n ≤ 140 → IsWithin m (called (refused_name (value_key failing_item) reason)) →
+      IsWithin n (reason_phrase (left_out_of failing_item) reason) → IsWithin 418 (failure reason)
   named_failure reason l k w =
-      let name : List ℕ = called (refused_name (value_key culprit) reason) in
-      let what : List ℕ = at_command culprit ++ name in
+      let name : List ℕ = called (refused_name (value_key failing_item) reason) in
+      let what : List ℕ = at_command failing_item ++ name in
       wider 418 _ (omega (arith, l))
-      (joined (front ++ what) (reason_phrase (left_out_of culprit) reason)
-      (joined front what f (joined (at_command culprit) name (at_part culprit h) k)) w)
+      (joined (front ++ what) (reason_phrase (left_out_of failing_item) reason)
+      (joined front what f (joined (at_command failing_item) name (at_part failing_item h) k)) w)
 
   -- a name stands before short reasons alone
   failure_part : (reason : Reason) → IsWithin 418 (failure reason)
   failure_part (Fault (NotInProfile name)) =
       named_failure (Fault (NotInProfile name)) (omega arith) (called_part (command_name (name_words name)) (by_key (name_words name)))
-      (unchecked_phrase_part (left_out_of culprit) name)
+      (unchecked_phrase_part (left_out_of failing_item) name)
   failure_part (Found BadValue) =
-      named_failure (Found BadValue) (omega arith) (called_part (value_name (value_key culprit)) (value_name_part (value_key culprit)))
-      (value_phrase_part (left_out_of culprit))
-  failure_part reason = named_failure reason (omega arith) (nothing 0) (reason_phrase_part (left_out_of culprit) reason)
+      named_failure (Found BadValue) (omega arith) (called_part (value_name (value_key failing_item))
+      (value_name_part (value_key failing_item)))
+      (value_phrase_part (left_out_of failing_item))
+  failure_part reason = named_failure reason (omega arith) (nothing 0) (reason_phrase_part (left_out_of failing_item) reason)
 
 -- ---- the answer
 
-verdict_part : (page : Option ℕ) (cursor : Option SheetSpot) (culprit : Option Culprit) (verdict : Verdict) → IsPageOfNumber page →
-    IsSpotOfNumbers cursor → IsCulpritOfNumbers culprit → IsVerdictOfNumbers verdict →
-    IsWithin 418 (verdict_phrase (fails_where page cursor culprit) verdict)
-verdict_part page cursor culprit (Pass pages marks) p s h k =
+verdict_part : (page : Option ℕ) (cursor : Option SheetSpot) (failing_item : Option FailingItem) (verdict : Verdict) → IsPageOfNumber page →
+    IsSpotOfNumbers cursor → IsFailingItemOfNumbers failing_item → IsVerdictOfNumbers verdict →
+    IsWithin 418 (verdict_phrase (fails_where page cursor failing_item) verdict)
+verdict_part page cursor failing_item (Pass pages marks) p s h k =
     let front : List ℕ = named (codes " (pages=") pages in
     let back : List ℕ = named (codes " marks=") marks in
     wider 418 _ (omega arith)
@@ -376,8 +377,8 @@ verdict_part page cursor culprit (Pass pages marks) p s h k =
     (joined front back (named_part 8 (codes " (pages=") pages refl refl k.0)
     (named_part 7 (codes " marks=") marks refl refl k.1))
     (literal 1 _ refl refl))
-verdict_part page cursor culprit (Fail place profile reason) p s h k =
-    failure_part (place_phrase place page cursor) culprit (place_part place page cursor k p s) h reason
+verdict_part page cursor failing_item (Fail place profile reason) p s h k =
+    failure_part (place_phrase place page cursor) failing_item (place_part place page cursor k p s) h reason
 
 subject_part : (names : List (List ℕ)) (number : ℕ) → AllByRecursion (IsWithin 32) names → IsWithin 32 (subject names number)
 subject_part names number h =
@@ -435,14 +436,14 @@ cause_part (Some words) =
 
 answer_part : (report : Reported) (answer : Result Verdict Error) → AllByRecursion (IsWithin 32) report.names →
     IsPageOfNumber (page_of report.answer) → IsSpotOfNumbers (cursor_of report.answer) →
-    IsCulpritOfNumbers (culprit_of report.answer) → IfOk answer IsVerdictOfNumbers → IsWithin 485 (answer_phrase report answer)
+    IsFailingItemOfNumbers (failing_item_of report.answer) → IfOk answer IsVerdictOfNumbers → IsWithin 485 (answer_phrase report answer)
 answer_part report (Ok verdict) h p s k l =
     joined (job_claim report)
-    (verdict_phrase (fails_where (page_of report.answer) (cursor_of report.answer) (culprit_of report.answer)) verdict)
+    (verdict_phrase (fails_where (page_of report.answer) (cursor_of report.answer) (failing_item_of report.answer)) verdict)
     (claim_part (subject report.names (number_told report.is_each (verdict_told report.answer))) (for_each report.is_each report.names)
-    (subject_part report.names _ h) (for_each_part report.is_each report.names h) (left_out_of (culprit_of report.answer))
+    (subject_part report.names _ h) (for_each_part report.is_each report.names h) (left_out_of (failing_item_of report.answer))
     (verdict_told report.answer))
-    (verdict_part (page_of report.answer) (cursor_of report.answer) (culprit_of report.answer) verdict p s k l)
+    (verdict_part (page_of report.answer) (cursor_of report.answer) (failing_item_of report.answer) verdict p s k l)
 answer_part report (Err error) h p s k l =
     let front : List ℕ = error_phrase error ++ for_printer report.names (number_told report.is_each (Err error)) in
     wider 485 _ (omega arith)
@@ -455,9 +456,9 @@ answer_part report (Err error) h p s k l =
 
 -- ---- the sentence
 
-culprit_numbers : (answer : Result Judgement Error) → IfOk answer AreNumbers → IsCulpritOfNumbers (culprit_of answer)
-culprit_numbers (Ok judgement) h = h.1
-culprit_numbers (Err error) h = tt
+failing_item_numbers : (answer : Result Judgement Error) → IfOk answer AreNumbers → IsFailingItemOfNumbers (failing_item_of answer)
+failing_item_numbers (Ok judgement) h = h.1
+failing_item_numbers (Err error) h = tt
 
 page_number : (answer : Result Judgement Error) → IfOk answer AreNumbers → IsPageOfNumber (page_of answer)
 page_number (Ok judgement) h = h.2
@@ -483,5 +484,5 @@ sentence_is_short report h =
       wider 999 _ (omega arith)
           (joined (named_first report.job) answer (named_first_part report.job)
           (answer_part report (verdict_told report.answer) h.names (page_number report.answer h.numbers)
-          (spot_numbers report.answer h.numbers) (culprit_numbers report.answer h.numbers) (verdict_numbers report.answer h.numbers))),
+          (spot_numbers report.answer h.numbers) (failing_item_numbers report.answer h.numbers) (verdict_numbers report.answer h.numbers))),
     )

@@ -7,8 +7,8 @@ use Rattle.pcl_items.specs.Escapes.Commands.{introducer_of, character_of, data_g
 use Rattle.pcl_items.specs.Items.{simple_view}
 use Rattle.line_words.specs.Figures.{escaped_byte}
 use Rattle.device_profile.specs.declared.font.FontRequest.{FontRequest}
-use Rattle.preflight.specs.declared.culprit.Culprit.{Culprit}
-use Rattle.preflight.specs.declared.culprit.Culprit.TheVariants.{Text, Simple, WithData, Line}
+use Rattle.preflight.specs.declared.failing_item.FailingItem.{FailingItem}
+use Rattle.preflight.specs.declared.failing_item.FailingItem.TheVariants.{Text, Simple, WithData, Line}
 
 -- a byte of a spelling: a control code by its name, any other byte as `list` writes it
 abbrev pub code_words : ℕ → List ℕ
@@ -19,7 +19,7 @@ code_words byte =
     if byte == 12 then codes "FF" else escaped_byte byte
 
 -- an item in its one spelling, but without data; of a line only how it begins
-abbrev pub command_words : Culprit → List ℕ
+abbrev pub command_words : FailingItem → List ℕ
 command_words (Text code) = codes "character " ++ escaped_byte code
 command_words (Simple item) = flat_map code_words (canon (simple_view item))
 command_words (WithData command count) =

@@ -6,10 +6,10 @@ use Rattle.std.specs.List.{AllByRecursion}
 use Rattle.line_words.specs.Figures.{escaped_byte, named}
 use Rattle.line_words.specs.Reason.{reason_words, short_reason}
 use Rattle.page_env.specs.declared.finding.Finding.TheVariants.{BadValue, NoGlyph}
-use Rattle.preflight.specs.declared.culprit.Culprit.{Culprit}
-use Rattle.preflight.specs.declared.culprit.Culprit.TheVariants.{Text, Simple, WithData, Line}
-use Rattle.preflight.specs.declared.culprit.Judgement.{Judgement}
-use Rattle.preflight.specs.declared.culprit.SheetSpot.{SheetSpot}
+use Rattle.preflight.specs.declared.failing_item.FailingItem.{FailingItem}
+use Rattle.preflight.specs.declared.failing_item.FailingItem.TheVariants.{Text, Simple, WithData, Line}
+use Rattle.preflight.specs.declared.failing_item.Judgement.{Judgement}
+use Rattle.preflight.specs.declared.failing_item.SheetSpot.{SheetSpot}
 use Rattle.shown_bytes.specs.Lengths.{millimetres}
 use Rattle.shown_bytes.specs.Shown.{shown, shown_text}
 use Rattle.streams.specs.declared.error.Error.{Error}
@@ -25,7 +25,7 @@ use Rattle.job_reports.specs.RefusedNames.{called, refused_name, value_key}
 use Rattle.job_reports.specs.declared.kind.Kind.{Kind}
 use Rattle.job_reports.specs.declared.kind.Kind.TheVariants as kinds
 use Rattle.job_reports.specs.declared.left_out.LeftOut.{LeftOut}
-use Rattle.job_reports.specs.Reports.{Reported, culprit_of, cursor_of, number_told, page_of, verdict_told}
+use Rattle.job_reports.specs.Reports.{Reported, failing_item_of, cursor_of, number_told, page_of, verdict_told}
 use Rattle.requests.specs.Status.{error_words}
 
 -- ---- what is long, in part
@@ -76,11 +76,11 @@ abbrev pub job_claim : Reported → List ℕ
 job_claim report =
     let answer = verdict_told report.answer in
     claim_by (subject report.names (number_told report.is_each answer)) (for_each report.is_each report.names)
-    (left_out_of (culprit_of report.answer)) answer
+    (left_out_of (failing_item_of report.answer)) answer
 
-abbrev pub at_command : Option Culprit → List ℕ
+abbrev pub at_command : Option FailingItem → List ℕ
 at_command None = []
-at_command (Some culprit) = codes ", " ++ command_words culprit
+at_command (Some failing_item) = codes ", " ++ command_words failing_item
 
 -- where a job fails: the page, where the cursor stood, the words behind that, the key of the command with its value,
 -- and what is left out of the value there
@@ -91,18 +91,18 @@ pub record FailsAt : Type 0 where
   pub value : Option (List ℕ)
   pub left_out : Option LeftOut
 
-abbrev pub fails_at : Option ℕ → Option Culprit → FailsAt
-fails_at page culprit = record {
+abbrev pub fails_at : Option ℕ → Option FailingItem → FailsAt
+fails_at page failing_item = record {
   page = page;
   cursor = None;
-  words = at_command culprit;
-  value = value_key culprit;
-  left_out = left_out_of culprit;
+  words = at_command failing_item;
+  value = value_key failing_item;
+  left_out = left_out_of failing_item;
 }
 
 -- the same where it may be known where the cursor stood
-abbrev pub fails_where : Option ℕ → Option SheetSpot → Option Culprit → FailsAt
-fails_where page cursor culprit = record (fails_at page culprit) { cursor = cursor }
+abbrev pub fails_where : Option ℕ → Option SheetSpot → Option FailingItem → FailsAt
+fails_where page cursor failing_item = record (fails_at page failing_item) { cursor = cursor }
 
 -- the words on the item, and what HP's manual calls what is not checked
 abbrev pub what_fails : List ℕ → Option (List ℕ) → Reason → List ℕ
@@ -175,7 +175,8 @@ cause_phrase (Some words) = codes ": " ++ first_of 200 (shown words)
 abbrev pub answer_phrase : Reported → Result Verdict Error → List ℕ
 answer_phrase report (Ok verdict) =
     job_claim report
-    ++ verdict_phrase (fails_where (page_of report.answer) (cursor_of report.answer) (culprit_of report.answer)) verdict
+    ++ verdict_phrase (fails_where (page_of report.answer) (cursor_of report.answer)
+    (failing_item_of report.answer)) verdict
 answer_phrase report (Err error) =
     error_phrase error ++ for_printer report.names (number_told report.is_each (Err error)) ++ cause_phrase report.cause
     ++ codes " (" ++ error_words error ++ codes ")"
@@ -199,12 +200,12 @@ abbrev pub IsVerdictOfNumbers : Verdict → Type 0
 IsVerdictOfNumbers (Pass pages marks) = (pages < 2 ^ 64) × (marks < 2 ^ 64)
 IsVerdictOfNumbers (Fail place profile reason) = place < 2 ^ 64
 
-abbrev pub IsCulpritOfNumbers : Option Culprit → Type 0
-IsCulpritOfNumbers (Some (WithData command count)) = count < 2 ^ 64
-IsCulpritOfNumbers (Some (Text code)) = ⊤
-IsCulpritOfNumbers (Some (Simple item)) = ⊤
-IsCulpritOfNumbers (Some Line) = ⊤
-IsCulpritOfNumbers None = ⊤
+abbrev pub IsFailingItemOfNumbers : Option FailingItem → Type 0
+IsFailingItemOfNumbers (Some (WithData command count)) = count < 2 ^ 64
+IsFailingItemOfNumbers (Some (Text code)) = ⊤
+IsFailingItemOfNumbers (Some (Simple item)) = ⊤
+IsFailingItemOfNumbers (Some Line) = ⊤
+IsFailingItemOfNumbers None = ⊤
 
 abbrev pub IsPageOfNumber : Option ℕ → Type 0
 IsPageOfNumber (Some page) = page < 2 ^ 64
@@ -217,7 +218,7 @@ IsSpotOfNumbers None = ⊤
 -- numbers of 64 bits
 abbrev pub AreNumbers : Judgement → Type 0
 AreNumbers judgement =
-    IsVerdictOfNumbers judgement.verdict × IsCulpritOfNumbers judgement.culprit × IsPageOfNumber judgement.page
+    IsVerdictOfNumbers judgement.verdict × IsFailingItemOfNumbers judgement.failing_item × IsPageOfNumber judgement.page
     × IsSpotOfNumbers judgement.cursor
 
 -- names of printers as their texts give them, and numbers as the program has them

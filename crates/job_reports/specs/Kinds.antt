@@ -7,7 +7,7 @@ use Rattle.page_env.specs.declared.finding.Finding.{Finding}
 use Rattle.page_env.specs.declared.finding.Finding.TheVariants as findings
 use Rattle.verdict.specs.declared.reason.Reason.{Reason}
 use Rattle.verdict.specs.declared.reason.Reason.TheVariants.{Fault, Finding as FindingOfRun, Differs, Unpinnable}
-use Rattle.preflight.specs.declared.culprit.Culprit.{Culprit}
+use Rattle.preflight.specs.declared.failing_item.FailingItem.{FailingItem}
 use Rattle.job_reports.specs.declared.kind.Kind.{Kind}
 use Rattle.job_reports.specs.declared.kind.Kind.TheVariants as kinds
 use Rattle.job_reports.specs.declared.left_out.LeftOut.{LeftOut}
@@ -61,8 +61,8 @@ kind_by left_out Differs = kinds.Differs
 kind_by left_out Unpinnable = kinds.Wrong
 
 -- and at this item
-abbrev pub kind_of : Reason → Option Culprit → Kind
-kind_of reason culprit = kind_by (left_out_of culprit) reason
+abbrev pub kind_of : Reason → Option FailingItem → Kind
+kind_of reason failing_item = kind_by (left_out_of failing_item) reason
 
 abbrev pub is_unchecked : Kind → Bool
 is_unchecked kinds.Unchecked = true

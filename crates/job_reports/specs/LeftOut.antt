@@ -11,8 +11,8 @@ use Rattle.page_env.specs.declared.finding.Finding.TheVariants.{BadValue}
 use Rattle.page_env.specs.Numbers.{is_negative}
 use Rattle.verdict.specs.declared.reason.Reason.TheVariants.{Finding}
 use Rattle.line_words.specs.Reason.{short_reason}
-use Rattle.preflight.specs.declared.culprit.Culprit.{Culprit}
-use Rattle.preflight.specs.declared.culprit.Culprit.TheVariants.{Simple}
+use Rattle.preflight.specs.declared.failing_item.FailingItem.{FailingItem}
+use Rattle.preflight.specs.declared.failing_item.FailingItem.TheVariants.{Simple}
 use Rattle.job_reports.specs.declared.left_out.LeftOut.{LeftOut}
 use Rattle.job_reports.specs.declared.left_out.LeftOut.TheVariants as left_outs
 
@@ -69,7 +69,7 @@ left_out_in (Set setting n) = Some (setting_left_out setting)
 left_out_in _ = Some left_outs.InMacro
 
 -- of the item that a job fails at, or of its end, which may run an overlay, too
-abbrev pub left_out_of : Option Culprit → Option LeftOut
+abbrev pub left_out_of : Option FailingItem → Option LeftOut
 left_out_of (Some (Simple item)) = left_out_in (simple_view item)
 left_out_of _ = Some left_outs.InMacro
 

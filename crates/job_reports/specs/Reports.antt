@@ -1,9 +1,9 @@
 -- What is told of a job.
 use Rattle.std.specs.Prelude.{ℕ, Bool, true, false, List, Option, None, Result, Ok, Err}
-use Rattle.preflight.specs.declared.culprit.Culprit.{Culprit}
-use Rattle.preflight.specs.declared.culprit.Judgement.{Judgement}
-use Rattle.preflight.specs.declared.culprit.MissingFont.{MissingFont}
-use Rattle.preflight.specs.declared.culprit.SheetSpot.{SheetSpot}
+use Rattle.preflight.specs.declared.failing_item.FailingItem.{FailingItem}
+use Rattle.preflight.specs.declared.failing_item.Judgement.{Judgement}
+use Rattle.preflight.specs.declared.failing_item.MissingFont.{MissingFont}
+use Rattle.preflight.specs.declared.failing_item.SheetSpot.{SheetSpot}
 use Rattle.streams.specs.declared.error.Error.{Error}
 use Rattle.verdict.specs.declared.verdict.Verdict.{Verdict}
 use Rattle.verdict.specs.declared.verdict.Verdict.TheVariants.{Pass, Fail}
@@ -23,9 +23,9 @@ verdict_told (Ok judgement) = Ok judgement.verdict
 verdict_told (Err error) = Err error
 
 -- the item that the job fails at
-abbrev pub culprit_of : Result Judgement Error → Option Culprit
-culprit_of (Ok judgement) = judgement.culprit
-culprit_of (Err error) = None
+abbrev pub failing_item_of : Result Judgement Error → Option FailingItem
+failing_item_of (Ok judgement) = judgement.failing_item
+failing_item_of (Err error) = None
 
 -- the page on which the job fails
 abbrev pub page_of : Result Judgement Error → Option ℕ

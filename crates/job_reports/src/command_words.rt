@@ -2,7 +2,7 @@
 ghost use Rattle.std.specs.Prelude.{◌≡◌, ◌++◌, OnOk, flat_map};
 ghost use Rattle.pcl_items.specs.Spellings.Canon.{canon};
 ghost use Rattle.pcl_items.specs.Items.{simple_view};
-ghost use Rattle.preflight.specs.declared.culprit.Culprit.TheVariants.{WithData};
+ghost use Rattle.preflight.specs.declared.failing_item.FailingItem.TheVariants.{WithData};
 ghost use Rattle.job_reports.specs.CommandWords.{
   code_words,
   command_words,
@@ -16,7 +16,7 @@ use device_profile::FontRequest;
 use line_words::push_escaped;
 use pcl_items::{DataCommand, Item, SimpleItem};
 use pcl_spelling::spell;
-use preflight::Culprit;
+use preflight::FailingItem;
 use shown_bytes::{push_amount, push_lettered, push_minus, push_number};
 use std::alloc::{AllocError, Allocator};
 
@@ -25,18 +25,18 @@ use std::alloc::{AllocError, Allocator};
 pub fn push_command_words<A: Allocator + Copy>(
     alloc: A,
     words: &mut Vec<u8, A>,
-    culprit: Culprit,
+    failing_item: FailingItem,
 ) -> Result<(), AllocError>
-    ensures { OnOk result (words.new.items ≡ words.old.items ++ command_words culprit) }
+    ensures { OnOk result (words.new.items ≡ words.old.items ++ command_words failing_item) }
 {
-    match culprit {
-        Culprit::Text(code) => {
+    match failing_item {
+        FailingItem::Text(code) => {
             words.extend_from_slice(b"character ")?;
             push_escaped(words, &[code])
         }
-        Culprit::Simple(item) => push_simple(alloc, words, item),
-        Culprit::WithData(command, count) => push_counting(words, command, count),
-        Culprit::Line => words.extend_from_slice(b"@PJL"),
+        FailingItem::Simple(item) => push_simple(alloc, words, item),
+        FailingItem::WithData(command, count) => push_counting(words, command, count),
+        FailingItem::Line => words.extend_from_slice(b"@PJL"),
     }
 }
 

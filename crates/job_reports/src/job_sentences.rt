@@ -45,7 +45,7 @@ use crate::refused_names::push_called;
 use crate::reports::Report;
 use line_words::{push_escaped, push_named, push_reason, short_reason};
 use page_env::Finding;
-use preflight::{Culprit, SheetSpot, Verdict};
+use preflight::{FailingItem, SheetSpot, Verdict};
 use requests::error_words;
 use shown_bytes::{push_millimetres, push_shown, push_shown_text};
 use std::alloc::{AllocError, Allocator};
@@ -94,7 +94,7 @@ fn push_answer<A: Allocator + Copy>(
             let at = Place {
                 page: report.page(),
                 cursor: report.cursor(),
-                culprit: report.culprit(),
+                failing_item: report.failing_item(),
             };
             push_verdict(alloc, line, at, verdict)
         }
@@ -117,7 +117,7 @@ fn push_claim<A: Allocator>(
             line.extend_from_slice(b" prints this job")
         }
         Ok(Verdict::Fail { finding, .. }) => {
-            push_refusal(line, report, kind_of(finding, report.culprit()))
+            push_refusal(line, report, kind_of(finding, report.failing_item()))
         }
         Err(_) => Ok(()),
     }
@@ -184,7 +184,7 @@ fn push_subject<A: Allocator>(
 struct Place {
     page: Option<u64>,
     cursor: Option<SheetSpot>,
-    culprit: Option<Culprit>,
+    failing_item: Option<FailingItem>,
 }
 
 /// Appends what stands behind the claim.
@@ -195,7 +195,7 @@ fn push_verdict<A: Allocator + Copy>(
     verdict: Verdict,
 ) -> Result<(), AllocError>
     ensures { OnOk result (line.new.items ≡ line.old.items ++
-        verdict_phrase (fails_where at.page at.cursor at.culprit) verdict) }
+        verdict_phrase (fails_where at.page at.cursor at.failing_item) verdict) }
 {
     match verdict {
         Verdict::Pass { pages, marks } => {
@@ -205,8 +205,8 @@ fn push_verdict<A: Allocator + Copy>(
         }
         Verdict::Fail { place, finding, .. } => {
             push_place(line, place, at)?;
-            push_what_fails(alloc, line, at.culprit, finding)?;
-            push_reason_phrase(line, left_out_of(at.culprit), finding)
+            push_what_fails(alloc, line, at.failing_item, finding)?;
+            push_reason_phrase(line, left_out_of(at.failing_item), finding)
         }
     }
 }
@@ -271,28 +271,28 @@ fn push_on_sheet<A: Allocator>(
 fn push_what_fails<A: Allocator + Copy>(
     alloc: A,
     line: &mut Vec<u8, A>,
-    culprit: Option<Culprit>,
+    failing_item: Option<FailingItem>,
     reason: Reason,
 ) -> Result<(), AllocError>
     ensures { OnOk result (line.new.items ≡ line.old.items ++
-        what_fails (at_command culprit) (value_key culprit) reason) }
+        what_fails (at_command failing_item) (value_key failing_item) reason) }
 {
-    push_at_command(alloc, line, culprit)?;
-    push_called(alloc, line, culprit, reason)
+    push_at_command(alloc, line, failing_item)?;
+    push_called(alloc, line, failing_item, reason)
 }
 
 /// Appends the item that a job fails at, where there is one.
 fn push_at_command<A: Allocator + Copy>(
     alloc: A,
     line: &mut Vec<u8, A>,
-    culprit: Option<Culprit>,
+    failing_item: Option<FailingItem>,
 ) -> Result<(), AllocError>
-    ensures { OnOk result (line.new.items ≡ line.old.items ++ at_command culprit) }
+    ensures { OnOk result (line.new.items ≡ line.old.items ++ at_command failing_item) }
 {
-    match culprit {
-        Some(culprit) => {
+    match failing_item {
+        Some(failing_item) => {
             line.extend_from_slice(b", ")?;
-            push_command_words(alloc, line, culprit)
+            push_command_words(alloc, line, failing_item)
         }
         None => Ok(()),
     }

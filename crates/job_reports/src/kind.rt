@@ -6,7 +6,7 @@ ghost use Rattle.job_reports.specs.Kinds.{kind_of, value_kind};
 use crate::left_out::{LeftOut, left_out_of};
 use page_env::Finding;
 use pcl_items::LexCause;
-use preflight::Culprit;
+use preflight::FailingItem;
 use verdict::Reason;
 
 /// Who says no to a job.
@@ -47,12 +47,12 @@ impl Kind {
 }
 
 /// The kind of a failure by this reason, at this item.
-pub fn kind_of(reason: Reason, culprit: Option<Culprit>) -> Kind
-    ensures { result ≡ kind_of reason culprit }
+pub fn kind_of(reason: Reason, failing_item: Option<FailingItem>) -> Kind
+    ensures { result ≡ kind_of reason failing_item }
 {
     match reason {
         Reason::Fault(cause) => cause_kind(cause),
-        Reason::Finding(finding) => finding_kind(left_out_of(culprit), finding),
+        Reason::Finding(finding) => finding_kind(left_out_of(failing_item), finding),
         Reason::Differs => Kind::Differs,
         // In no check, but as a job is pinned.
         Reason::Unpinnable => Kind::Wrong,

@@ -10,7 +10,7 @@ ghost use Rattle.job_reports.specs.LeftOut.{where_is};
 use line_words::short_reason;
 use page_env::Finding;
 use pcl_items::{Command, Number, Setting, Sign, SimpleItem};
-use preflight::Culprit;
+use preflight::FailingItem;
 use verdict::Reason;
 
 /// What pclcheck does not check of a value that HP's manual has, where it is 10 BadValue.
@@ -40,11 +40,11 @@ pub enum LeftOut {
 
 /// What the language leaves out, where a job fails at this item by 10 BadValue; None where no
 /// printer takes the value.
-pub fn left_out_of(culprit: Option<Culprit>) -> Option<LeftOut>
-    ensures { result ≡ left_out_of culprit }
+pub fn left_out_of(failing_item: Option<FailingItem>) -> Option<LeftOut>
+    ensures { result ≡ left_out_of failing_item }
 {
-    match culprit {
-        Some(Culprit::Simple(item)) => left_out_in(item),
+    match failing_item {
+        Some(FailingItem::Simple(item)) => left_out_in(item),
         _ => Some(LeftOut::InMacro),
     }
 }

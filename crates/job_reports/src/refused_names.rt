@@ -11,7 +11,7 @@ use line_words::push_name;
 use page_env::Finding;
 use pcl_items::{Item, LexCause, Name, SimpleItem};
 use pcl_spelling::spell;
-use preflight::Culprit;
+use preflight::FailingItem;
 use std::alloc::{AllocError, Allocator};
 use verdict::Reason;
 
@@ -20,15 +20,15 @@ use verdict::Reason;
 pub fn push_refused_name<A: Allocator + Copy>(
     alloc: A,
     words: &mut Vec<u8, A>,
-    culprit: Option<Culprit>,
+    failing_item: Option<FailingItem>,
     reason: Reason,
 ) -> Result<(), AllocError>
     ensures { OnOk result (words.new.items ≡
-        words.old.items ++ refused_name (value_key culprit) reason) }
+        words.old.items ++ refused_name (value_key failing_item) reason) }
 {
     match reason {
         Reason::Fault(LexCause::NotInProfile(name)) => push_fault_name(alloc, words, name),
-        Reason::Finding(Finding::BadValue) => push_value_name(alloc, words, culprit),
+        Reason::Finding(Finding::BadValue) => push_value_name(alloc, words, failing_item),
         _ => Ok(()),
     }
 }
@@ -50,13 +50,13 @@ fn push_fault_name<A: Allocator>(
 fn push_value_name<A: Allocator + Copy>(
     alloc: A,
     words: &mut Vec<u8, A>,
-    culprit: Option<Culprit>,
+    failing_item: Option<FailingItem>,
 ) -> Result<(), AllocError>
     ensures { OnOk result (words.new.items ≡
-        words.old.items ++ value_name (value_key culprit)) }
+        words.old.items ++ value_name (value_key failing_item)) }
 {
-    match culprit {
-        Some(Culprit::Simple(item)) => push_item_name(alloc, words, item),
+    match failing_item {
+        Some(FailingItem::Simple(item)) => push_item_name(alloc, words, item),
         _ => Ok(()),
     }
 }
@@ -90,14 +90,14 @@ fn behind_first(bytes: &[u8]) -> &[u8]
 pub(crate) fn push_called<A: Allocator + Copy>(
     alloc: A,
     line: &mut Vec<u8, A>,
-    culprit: Option<Culprit>,
+    failing_item: Option<FailingItem>,
     reason: Reason,
 ) -> Result<(), AllocError>
     ensures { OnOk result (line.new.items ≡
-        line.old.items ++ called (refused_name (value_key culprit) reason)) }
+        line.old.items ++ called (refused_name (value_key failing_item) reason)) }
 {
     let mut name = Vec::new(alloc);
-    push_refused_name(alloc, &mut name, culprit, reason)?;
+    push_refused_name(alloc, &mut name, failing_item, reason)?;
     if name.is_empty() {
         return Ok(());
     }

@@ -1,7 +1,7 @@
 //! What is told of a job.
 ghost use Rattle.std.specs.Prelude.{◌≡◌, ◌≤◌, ◌-◌, [], get_or};
 ghost use Rattle.job_reports.specs.Reports.{
-  culprit_of,
+  failing_item_of,
   cursor_of,
   font_of,
   number_told,
@@ -10,7 +10,7 @@ ghost use Rattle.job_reports.specs.Reports.{
 };
 
 use crate::groups::PrinterGroup;
-use preflight::{Culprit, Judgement, MissingFont, SheetSpot, Verdict};
+use preflight::{FailingItem, Judgement, MissingFont, SheetSpot, Verdict};
 use std::alloc::Allocator;
 use std::marker::Model;
 use streams::Error;
@@ -53,11 +53,11 @@ impl<'t, 'c, A: Allocator> Report<'t, 'c, A> {
     }
 
     /// The item that the job fails at.
-    pub fn culprit(&self) -> Option<Culprit>
-        ensures { result ≡ culprit_of self.now.answer }
+    pub fn failing_item(&self) -> Option<FailingItem>
+        ensures { result ≡ failing_item_of self.now.answer }
     {
         match self.answer {
-            Ok(judgement) => judgement.culprit,
+            Ok(judgement) => judgement.failing_item,
             Err(_) => None,
         }
     }

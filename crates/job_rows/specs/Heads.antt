@@ -7,7 +7,7 @@ use Rattle.verdict.specs.declared.verdict.Verdict.{Verdict}
 use Rattle.verdict.specs.declared.verdict.Verdict.TheVariants.{Pass, Fail}
 use Rattle.job_reports.specs.JobSentences.{job_sentence}
 use Rattle.job_reports.specs.Kinds.{kind_name, kind_of}
-use Rattle.job_reports.specs.Reports.{Reported, culprit_of, number_told, page_of, verdict_told}
+use Rattle.job_reports.specs.Reports.{Reported, failing_item_of, number_told, page_of, verdict_told}
 use Rattle.job_reports.specs.declared.kind.Kind.{Kind}
 use Rattle.job_rows.specs.Escapes.{html_text}
 
@@ -57,7 +57,7 @@ fail_badges kind page place =
 abbrev pub badges : Reported → Result Verdict Error → List ℕ
 badges report (Ok (Pass pages marks)) = named (codes " <i>pages ") pages ++ codes "</i>"
 badges report (Ok (Fail place profile reason)) =
-    fail_badges (kind_of reason (culprit_of report.answer)) (page_of report.answer) place
+    fail_badges (kind_of reason (failing_item_of report.answer)) (page_of report.answer) place
 badges report (Err error) = []
 
 -- ---- what stands open

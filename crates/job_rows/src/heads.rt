@@ -135,7 +135,7 @@ fn push_badges<A: Allocator>(
             text.extend_from_slice(b"</i>")
         }
         Ok(Verdict::Fail { place, finding, .. }) => {
-            let kind = kind_of(finding, report.culprit());
+            let kind = kind_of(finding, report.failing_item());
             push_fail_badges(text, kind, report.page(), place)
         }
         Err(_) => Ok(()),

@@ -19,7 +19,7 @@ use Rattle.pcl_items.specs.Items.{Parameterized, at}
 use Rattle.pcl_items.specs.Escapes.Value.{Amount, most}
 use Rattle.pcl_items.specs.Escapes.ValueField.{sign_text}
 use Rattle.pcl_spelling.proofs.Escapes.WholeNumbers.{no_decimals}
-use Rattle.shown_bytes.specs.Decimals.{before, four_decimals, magnitude_text, with_point, without_zeros}
+use Rattle.shown_bytes.specs.Decimals.{digit_before, four_decimals, magnitude_text, with_point, without_zeros}
 use Rattle.line_words.specs.Figures.{escaped_byte}
 use Rattle.line_words.specs.ItemLines.{item_line}
 
@@ -51,7 +51,7 @@ shown_decimal =
     (λ n h. shown_first (48 + n) [] (shown_digit n h) refl)
     (λ n text h shown. shown_both text ((48 + n % 10) ∷ []) shown (shown_first (48 + n % 10) [] (shown_digit (n % 10) (omega arith)) refl))
 
-shown_before : (d : ℕ) (text : List ℕ) → escaped_byte d ≡ d ∷ [] → IsShown text → IsShown (before d text)
+shown_before : (d : ℕ) (text : List ℕ) → escaped_byte d ≡ d ∷ [] → IsShown text → IsShown (digit_before d text)
 shown_before d [] h k = cond_both (d == 48) _ _ IsShown (λ _. refl) (λ _. shown_first d [] h refl)
 shown_before d (e ∷ text) h k = shown_first d (e ∷ text) h k
 

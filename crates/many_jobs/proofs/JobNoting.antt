@@ -7,7 +7,7 @@ use Rattle.streams.specs.declared.error.Error.{Error}
 use Rattle.streams.specs.declared.error.Error.TheVariants.{Memory, Read, Write, Turns, NoProfile, Items}
 use Rattle.renderings.specs.declared.outcome.Outcome.{Outcome}
 use Rattle.renderings.specs.declared.outcome.Outcome.TheVariants.{Done as AllDone, Fail}
-use Rattle.renderings.specs.Due.{IsDue, Renders, TextNeedsReads, TextStaysOpen}
+use Rattle.renderings.specs.Expected.{IsExpected, Renders, TextNeedsReads, TextStaysOpen}
 use Rattle.streams.specs.Errors.{is_err_of_read, is_read}
 use Rattle.streams.specs.Outlet.{OutletState, Adds}
 use Rattle.streams.specs.Ended.{job_read}
@@ -36,8 +36,8 @@ module _ (write : Told → List ℕ) (printer : Printer) (panel : Panel) (first 
   comes outcome text rendered empty is =
       let due = rendered.written in
       let text_is : due.text ≡ text = sym (is ∙ (due.adds.taken ∙ ap (λ l. l ++ due.text) empty)) in
-      subst (λ (p : Panel). ByReads job job' (λ bytes. IsDue (notes_rendering write printer p) bytes text outcome)) first
-      (subst (λ (t : List ℕ). ByReads job job' (λ bytes. IsDue (notes_rendering write printer panel) bytes t outcome)) text_is due.due)
+      subst (λ (p : Panel). ByReads job job' (λ bytes. IsExpected (notes_rendering write printer p) bytes text outcome)) first
+      (subst (λ (t : List ℕ). ByReads job job' (λ bytes. IsExpected (notes_rendering write printer panel) bytes t outcome)) text_is due.due)
 
   -- to its end
   pub notes_had : (text : List ℕ) → Renders (notes_rendering write printer panel) job job' kept kept' (Ok AllDone) → kept.taken ≡ [] →

@@ -13,8 +13,8 @@ use Rattle.device_profile.specs.declared.font.FontRequest.{FontRequest}
 use Rattle.page_env.specs.declared.finding.Finding.TheVariants.{NoFont, NotOnDevice, Unset}
 use Rattle.verdict.specs.declared.reason.Reason.TheVariants.{Finding}
 use Rattle.verdict.specs.declared.verdict.Verdict.TheVariants.{Fail, Pass}
-use Rattle.preflight.specs.declared.culprit.Culprit.TheVariants.{Simple}
-use Rattle.preflight.specs.declared.culprit.Judgement.{Judgement}
+use Rattle.preflight.specs.declared.failing_item.FailingItem.TheVariants.{Simple}
+use Rattle.preflight.specs.declared.failing_item.Judgement.{Judgement}
 use Rattle.streams.specs.declared.error.Error.{Error}
 use Rattle.streams.specs.declared.error.Error.TheVariants.{Read}
 use Rattle.many_jobs.specs.JobObjects.{job_object}
@@ -35,13 +35,13 @@ report_of is_each job answer cause = record {
 }
 
 abbrev passed : Result Judgement Error
-passed = Ok (record { verdict = Pass 1 22; culprit = None; page = None; cursor = None; font = None })
+passed = Ok (record { verdict = Pass 1 22; failing_item = None; page = None; cursor = None; font = None })
 
 -- the panel of the second printer leaves the size of the page open
 abbrev unset : Result Judgement Error
 unset = Ok (record {
   verdict = Fail 134 2 (Finding (Unset Size));
-  culprit = Some (Simple (Parameterized PageSize (record { sign = Absent; ten_thousandths = 20000; within = lit≤ tt })));
+  failing_item = Some (Simple (Parameterized PageSize (record { sign = Absent; ten_thousandths = 20000; within = lit≤ tt })));
   page = Some 3;
   cursor = None;
   font = None;
@@ -62,7 +62,7 @@ bold = record {
 abbrev missing : Result Judgement Error
 missing = Ok (record {
   verdict = Fail 9 1 (Finding NoFont);
-  culprit = None;
+  failing_item = None;
   page = Some 1;
   cursor = None;
   font = Some (record { asked = bold; nearest = Some (record bold { weight = negsuc 9_999 }) });
@@ -77,7 +77,7 @@ object_of_font = refl
 abbrev first_unset : Result Judgement Error
 first_unset = Ok (record {
   verdict = Fail 134 1 (Finding (Unset Size));
-  culprit = None;
+  failing_item = None;
   page = Some 1;
   cursor = None;
   font = None;
@@ -98,7 +98,7 @@ object_of_fail = refl
 abbrev placed : Result Judgement Error
 placed = Ok (record {
   verdict = Fail 9 1 (Finding NotOnDevice);
-  culprit = None;
+  failing_item = None;
   page = Some 1;
   cursor = Some (record { x = pos 45_720_000_000; y = pos 54_864_000_000 });
   font = None;

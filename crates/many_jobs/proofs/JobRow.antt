@@ -4,7 +4,7 @@ use Rattle.std.proofs.Common.{append-nil, option_map, subst, Bor, length, option
 use Rattle.std.proofs.lemmas.Option.{slice_get_past, slice_get_read}
 use Rattle.std.specs.Slice.{IsItemAt}
 use Rattle.device_profile.specs.Printer.{Printer}
-use Rattle.preflight.specs.declared.culprit.Judgement.{Judgement}
+use Rattle.preflight.specs.declared.failing_item.Judgement.{Judgement}
 use Rattle.streams.specs.declared.error.Error.{Error}
 use Rattle.streams.specs.declared.error.Error.TheVariants.{Memory, Read, Write, Turns, NoProfile, Items}
 use Rattle.streams.specs.Ended.{JobRead}
@@ -12,7 +12,7 @@ use Rattle.streams.specs.Outlet.{OutletState, Adds, AddsFront}
 use Rattle.streams.specs.Pieces.{ByReads}
 use Rattle.streams.specs.Source.{SourceState}
 use Rattle.renderings.specs.declared.outcome.Outcome.{Outcome}
-use Rattle.renderings.specs.Due.{IsDue, Rendering, Renders}
+use Rattle.renderings.specs.Expected.{IsExpected, Rendering, Renders}
 use Rattle.named_inputs.specs.KeptText.{kept_error}
 use Rattle.notes.specs.Note.{Told}
 use Rattle.job_reports.specs.Groups.{Groups}
@@ -35,7 +35,7 @@ module _ (rendering : Rendering) (job job' : SourceState) (kept kept' : OutletSt
       let due = rendered.written in
       let text_is : due.text ≡ text = sym (is ∙ (due.adds.taken ∙ ap (λ l. l ++ due.text) empty)) in
       record {
-        due = (outcome, subst (λ (t : List ℕ). ByReads job job' (λ bytes. IsDue rendering bytes t outcome)) text_is due.due);
+        due = (outcome, subst (λ (t : List ℕ). ByReads job job' (λ bytes. IsExpected rendering bytes t outcome)) text_is due.due);
         needed = due.needed;
         error = tt;
         read = rendered.read;

@@ -27,10 +27,10 @@ CutsText _ text out out' = ⊥
 -- all of it stands there: what stands before the lines, these, and what stands behind them
 pub record TellsDocument (groups : Groups) (telling : HowTold) (due : List (List ℕ × ℕ)) (start : List ℕ → SourceState)
     (ending : Ending) (old new : Work) : Type 0 where
-  pub before : OutletState
+  pub behind_start : OutletState
   pub behind : OutletState
-  pub begun : Adds old.out before (start_text telling.format groups.names)
-  pub lines : TellsAll groups telling due start ending (work before old.ended) (work behind new.ended)
+  pub begun : Adds old.out behind_start (start_text telling.format groups.names)
+  pub lines : TellsAll groups telling due start ending (work behind_start old.ended) (work behind new.ended)
   pub closed : Adds behind new.out (end_text telling.format)
 
 -- it stopped before the first line, among the lines, or behind the last one
@@ -38,8 +38,8 @@ abbrev pub TellsDocumentFront : Groups → HowTold → (List ℕ → SourceState
 TellsDocumentFront groups telling start due old new =
     let first = start_text telling.format groups.names in
     (AddsFront old.out new.out first × (new.ended ≡ old.ended))
-    ⊎ (((before : OutletState) × Adds old.out before first
-    × TellsFront groups telling start due (work before old.ended) new)
-    ⊎ ((ending : Ending) × (before : OutletState) × (behind : OutletState) × Adds old.out before first
-    × TellsAll groups telling due start ending (work before old.ended) (work behind new.ended)
+    ⊎ (((behind_start : OutletState) × Adds old.out behind_start first
+    × TellsFront groups telling start due (work behind_start old.ended) new)
+    ⊎ ((ending : Ending) × (behind_start : OutletState) × (behind : OutletState) × Adds old.out behind_start first
+    × TellsAll groups telling due start ending (work behind_start old.ended) (work behind new.ended)
     × AddsFront behind new.out (end_text telling.format)))

@@ -5,14 +5,14 @@ use Rattle.std.specs.List.{AllByRecursion, range_with_len}
 use Rattle.device_profile.specs.Printer.{Printer}
 use Rattle.streams.specs.declared.error.Error.{Error}
 use Rattle.streams.specs.declared.error.Error.TheVariants.{Memory, Read, Write, Turns, NoProfile, Items}
-use Rattle.preflight.specs.declared.culprit.Culprit.{Culprit}
-use Rattle.preflight.specs.declared.culprit.Judgement.{Judgement}
-use Rattle.preflight.specs.Culprit.{IsTold}
+use Rattle.preflight.specs.declared.failing_item.FailingItem.{FailingItem}
+use Rattle.preflight.specs.declared.failing_item.Judgement.{Judgement}
+use Rattle.preflight.specs.FailingItem.{IsTold}
 use Rattle.preflight.specs.Stood.{IsCursorOf, IsFontOf}
 use Rattle.preflight.specs.Where.{IsOnPage}
 use Rattle.streams.specs.Errors.{is_err_of_read}
 use Rattle.preflight.specs.Verdict.{PassesItems}
-use Rattle.renderings.specs.Due.{Rendering}
+use Rattle.renderings.specs.Expected.{Rendering}
 use Rattle.verdict.specs.declared.verdict.Verdict.{Verdict}
 use Rattle.verdict.specs.Limits.{has_many_items}
 use Rattle.verdict.specs.declared.verdict.Verdict.TheVariants.{Pass as PassOf, Fail as FailOf}
@@ -51,7 +51,7 @@ IsErrorOfJob Items = ⊤
 pub record IsRightAnswer (fleet : List Printer) (start after : SourceState)
     (answer : Result Judgement Error) : Type 0 where
   pub verdict : IfOk answer (λ judgement. IsRightVerdict start after fleet judgement.verdict)
-  pub item : IfOk answer (λ judgement. ByReads start after (λ job. IsTold job judgement.verdict judgement.culprit))
+  pub item : IfOk answer (λ judgement. ByReads start after (λ job. IsTold job judgement.verdict judgement.failing_item))
   pub page : IfOk answer (λ judgement. ByReads start after (λ job. IsOnPage fleet job judgement.verdict judgement.page))
   pub cursor : IfOk answer (λ judgement.
       ByReads start after (λ job. IsCursorOf fleet job judgement.verdict judgement.cursor))
@@ -69,13 +69,14 @@ ending_of_kind telling kind =
     else (if telling.passes_unchecked && is_unchecked kind then Passes else Fails)
 
 -- how a verdict does, with the item at the place of a FAIL
-abbrev pub ending_of_verdict : HowTold → Option Culprit → Verdict → Ending
-ending_of_verdict telling culprit (PassOf pages marks) = Passes
-ending_of_verdict telling culprit (FailOf place profile reason) = ending_of_kind telling (kind_of reason culprit)
+abbrev pub ending_of_verdict : HowTold → Option FailingItem → Verdict → Ending
+ending_of_verdict telling failing_item (PassOf pages marks) = Passes
+ending_of_verdict telling failing_item (FailOf place profile reason) =
+    ending_of_kind telling (kind_of reason failing_item)
 
 -- how an answer does
 abbrev pub ending_of : HowTold → Result Judgement Error → Ending
-ending_of telling (Ok judgement) = ending_of_verdict telling judgement.culprit judgement.verdict
+ending_of telling (Ok judgement) = ending_of_verdict telling judgement.failing_item judgement.verdict
 ending_of telling (Err error) = HasNoVerdict
 
 -- the greater one

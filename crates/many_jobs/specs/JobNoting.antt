@@ -6,7 +6,7 @@ use Rattle.streams.specs.declared.error.Error.{Error}
 use Rattle.streams.specs.declared.error.Error.TheVariants.{Memory, Read, Turns}
 use Rattle.renderings.specs.declared.outcome.Outcome.{Outcome}
 use Rattle.renderings.specs.declared.outcome.Outcome.TheVariants.{Done}
-use Rattle.renderings.specs.Due.{IsDue, TextNeedsReads, TextStaysOpen}
+use Rattle.renderings.specs.Expected.{IsExpected, TextNeedsReads, TextStaysOpen}
 use Rattle.streams.specs.Ended.{JobRead, job_read}
 use Rattle.streams.specs.Pieces.{ByReads}
 use Rattle.streams.specs.Source.{SourceState}
@@ -43,7 +43,7 @@ IsErrorOfNotes _ = ⊥
 -- first panel, and what it comes to.
 abbrev pub Comes : (Told → List ℕ) → Printer → (start after : SourceState) → (text : List ℕ) → Outcome → Type 0
 Comes write printer start after text outcome =
-    ByReads start after (λ job. IsDue (notes_rendering write printer (first_panel printer)) job text outcome)
+    ByReads start after (λ job. IsExpected (notes_rendering write printer (first_panel printer)) job text outcome)
 
 -- it does not come to its end, and passed before
 abbrev pub IsAnother : (Told → List ℕ) → Printer → (start after : SourceState) → Type 0

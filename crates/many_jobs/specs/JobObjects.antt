@@ -7,9 +7,9 @@ use Rattle.device_profile.specs.declared.font.FontRequest.{FontRequest}
 use Rattle.line_words.specs.Figures.{escaped_byte}
 use Rattle.line_words.specs.Reason.{bare_name, field_words}
 use Rattle.page_env.specs.declared.finding.Finding.TheVariants.{NoGlyph}
-use Rattle.preflight.specs.declared.culprit.Culprit.{Culprit}
-use Rattle.preflight.specs.declared.culprit.MissingFont.{MissingFont}
-use Rattle.preflight.specs.declared.culprit.SheetSpot.{SheetSpot}
+use Rattle.preflight.specs.declared.failing_item.FailingItem.{FailingItem}
+use Rattle.preflight.specs.declared.failing_item.MissingFont.{MissingFont}
+use Rattle.preflight.specs.declared.failing_item.SheetSpot.{SheetSpot}
 use Rattle.shown_bytes.specs.Lengths.{millimetres}
 use Rattle.streams.specs.declared.error.Error.{Error}
 use Rattle.streams.specs.declared.error.Error.TheVariants.{Memory, Read, Write, Turns, NoProfile, Items}
@@ -24,7 +24,7 @@ use Rattle.job_reports.specs.Kinds.{kind_name, kind_of}
 use Rattle.job_reports.specs.RefusedNames.{refused_name, value_key}
 use Rattle.many_jobs.specs.JsonObject.{with_number, with_text}
 use Rattle.many_jobs.specs.JsonTexts.{name_text, words_text}
-use Rattle.job_reports.specs.Reports.{Reported, culprit_of, cursor_of, font_of, number_told, page_of, verdict_told}
+use Rattle.job_reports.specs.Reports.{Reported, failing_item_of, cursor_of, font_of, number_told, page_of, verdict_told}
 
 -- ---- what came of a job
 
@@ -82,9 +82,9 @@ abbrev pub with_character : Reason → Members → Members
 with_character (Finding (NoGlyph code)) members = with_text (codes "character") (words_text (escaped_byte code)) members
 with_character _ members = members
 
-abbrev pub with_command : Option Culprit → Members → Members
+abbrev pub with_command : Option FailingItem → Members → Members
 with_command None members = members
-with_command (Some culprit) members = with_text (codes "command") (words_text (command_words culprit)) members
+with_command (Some failing_item) members = with_text (codes "command") (words_text (command_words failing_item)) members
 
 -- what HP's manual calls what is not checked
 abbrev pub with_command_name : List ℕ → Members → Members
@@ -118,13 +118,13 @@ abbrev pub with_answer : List ℕ → Reported → Result Verdict Error → Memb
 with_answer explanation report (Ok (Pass pages marks)) members = with_pass pages marks members
 with_answer explanation report (Ok (Fail place profile reason)) members =
     with_explanation explanation
-    (with_command_name (refused_name (value_key (culprit_of report.answer)) reason)
-    (with_command (culprit_of report.answer)
+    (with_command_name (refused_name (value_key (failing_item_of report.answer)) reason)
+    (with_command (failing_item_of report.answer)
     (with_character reason
     (with_missing_font (font_of report.answer)
     (with_cursor (cursor_of report.answer)
     (with_page (page_of report.answer)
-    (with_kind (kind_of reason (culprit_of report.answer)) (with_fail place profile reason members))))))))
+    (with_kind (kind_of reason (failing_item_of report.answer)) (with_fail place profile reason members))))))))
 with_answer explanation report (Err error) members = with_error error report.cause members
 
 -- ---- the whole object

@@ -13,10 +13,10 @@ use Rattle.streams.specs.Pieces.{ByReads}
 use Rattle.streams.specs.Source.{SourceState}
 use Rattle.verdict.specs.declared.verdict.Verdict.{Verdict}
 use Rattle.verdict.specs.declared.verdict.Verdict.TheVariants.{Pass, Fail}
-use Rattle.preflight.specs.declared.culprit.Judgement.{Judgement}
+use Rattle.preflight.specs.declared.failing_item.Judgement.{Judgement}
 use Rattle.line_words.specs.ItemLines.{item_line}
 use Rattle.renderings.specs.declared.outcome.Outcome.{Outcome}
-use Rattle.renderings.specs.Due.{IsDue, Rendering, TextNeedsReads, item_by_item}
+use Rattle.renderings.specs.Expected.{IsExpected, Rendering, TextNeedsReads, item_by_item}
 use Rattle.requests.specs.declared.selection.DrawnPages.TheVariants.{One}
 use Rattle.job_picture.specs.JobPicture.{picture_rendering}
 use Rattle.job_reports.specs.Groups.{Groups, reported}
@@ -47,7 +47,8 @@ IsErrorOfReread Items = ⊥
 -- Of every job that may be by what the reading gave, the text is what is due, and each read was needed.
 -- An error is that of a read exactly where one failed.
 pub record IsRightText (rendering : Rendering) (start after : SourceState) (text : Result (List ℕ) Error) : Type 0 where
-  pub due : IfOk text (λ bytes. (outcome : Outcome) × ByReads start after (λ job. IsDue rendering job bytes outcome))
+  pub due : IfOk text (λ bytes. (outcome : Outcome) ×
+      ByReads start after (λ job. IsExpected rendering job bytes outcome))
   pub needed : IfOk text (λ bytes. TextNeedsReads rendering start after)
   pub error : IfErr text IsErrorOfReread
   pub read : after.failed ≡ is_err_of_read text

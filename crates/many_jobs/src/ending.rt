@@ -31,7 +31,7 @@ impl Ending {
             Ok(judgement) => match judgement.verdict {
                 Verdict::Pass { .. } => Ending::Passes,
                 Verdict::Fail { finding, .. } => {
-                    Ending::of_kind(telling, kind_of(finding, judgement.culprit))
+                    Ending::of_kind(telling, kind_of(finding, judgement.failing_item))
                 }
             },
             Err(_) => Ending::HasNoVerdict,

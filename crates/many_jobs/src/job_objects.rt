@@ -31,7 +31,7 @@ use job_reports::{
 };
 use line_words::{bare_name, push_escaped, push_field_words};
 use page_env::Finding;
-use preflight::{Culprit, MissingFont, SheetSpot, Verdict};
+use preflight::{FailingItem, MissingFont, SheetSpot, Verdict};
 use shown_bytes::push_millimetres;
 use std::alloc::{AllocError, Allocator, Global};
 use streams::Error;
@@ -107,13 +107,13 @@ fn put_answer<A: Allocator + Copy>(
             },
         ) => {
             put_fail(alloc, object, place, profile, finding)?;
-            put_kind(object, kind_of(finding, report.culprit()))?;
+            put_kind(object, kind_of(finding, report.failing_item()))?;
             put_page(object, report.page())?;
             put_cursor(alloc, object, report.cursor())?;
             put_missing_font(alloc, object, report.font())?;
             put_character(alloc, object, finding)?;
-            put_command(alloc, object, report.culprit())?;
-            put_command_name(alloc, object, report.culprit(), finding)?;
+            put_command(alloc, object, report.failing_item())?;
+            put_command_name(alloc, object, report.failing_item(), finding)?;
             put_explanation(object, explanation)
         }
         Err(error) => put_error(object, error, report.cause),
@@ -259,14 +259,15 @@ fn put_character<A: Allocator>(
 fn put_command<A: Allocator + Copy>(
     alloc: A,
     object: &mut Object,
-    culprit: Option<Culprit>,
+    failing_item: Option<FailingItem>,
 ) -> Result<(), AllocError>
-    ensures { OnOk result (members_of object.new ≡ with_command culprit (members_of object.old)) }
+    ensures { OnOk result (members_of object.new ≡ with_command failing_item
+        (members_of object.old)) }
 {
-    match culprit {
-        Some(culprit) => {
+    match failing_item {
+        Some(failing_item) => {
             let mut words = Vec::new(alloc);
-            push_command_words(alloc, &mut words, culprit)?;
+            push_command_words(alloc, &mut words, failing_item)?;
             object.put_words("command", words.as_slice())
         }
         None => Ok(()),
@@ -277,14 +278,14 @@ fn put_command<A: Allocator + Copy>(
 fn put_command_name<A: Allocator + Copy>(
     alloc: A,
     object: &mut Object,
-    culprit: Option<Culprit>,
+    failing_item: Option<FailingItem>,
     finding: Reason,
 ) -> Result<(), AllocError>
     ensures { OnOk result (members_of object.new ≡ with_command_name
-        (refused_name (value_key culprit) finding) (members_of object.old)) }
+        (refused_name (value_key failing_item) finding) (members_of object.old)) }
 {
     let mut name = Vec::new(alloc);
-    push_refused_name(alloc, &mut name, culprit, finding)?;
+    push_refused_name(alloc, &mut name, failing_item, finding)?;
     if name.is_empty() {
         return Ok(());
     }

@@ -22,7 +22,7 @@ longer_word = refl
 second_refused : RefusesFirst (None ∷ Some (codes "pclprofile 3\n") ∷ Some (codes "pclprofile 4\n") ∷ []) (Profile 2 1 Version)
 unfolding printer_of_text
 second_refused = record {
-  before = None ∷ [];
+  texts_before = None ∷ [];
   text = Some (codes "pclprofile 3\n");
   after = Some (codes "pclprofile 4\n") ∷ [];
   in_order = refl;

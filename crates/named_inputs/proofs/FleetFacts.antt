@@ -52,7 +52,7 @@ reached : {X : Type 0} (f : X → Option (List ℕ)) (words : List X) (i : ℕ) 
     i < length words →
     DescribeFleet (map f (take i words)) printers → P (f (get_or words i d)) → IsReached (map f words) (i + 1) P
 reached f words i d printers P h before holds = record {
-  before = map f (take i words);
+  texts_before = map f (take i words);
   text = f (get_or words i d);
   after = map f (drop (suc i) words);
   in_order = ap (map f) (split_at words i d h) ∙ map-append f (take i words) (get_or words i d ∷ drop (suc i) words);
@@ -138,7 +138,7 @@ read_is_refused old new text number NoMemory status read refused is = subst (Ref
 behind_described : (start mid after : List (List ℕ)) (printers : List Printer) (i : ℕ) (status : Status) → DescribeBy start mid printers →
     length printers ≡ i → RefusesRead mid after (i + 1) status → RefusesBy start after status
 behind_described start mid after printers i (Profile number line cause) described count refused = record {
-  before = described.0;
+  texts_before = described.0;
   text = refused.1;
   read = refused.2 ∙ ap (λ front. front ++ refused.1 ∷ []) described.1 ∙ append_assoc start described.0 (refused.1 ∷ []);
   number_is = omega (

@@ -30,24 +30,24 @@ DescribeBy old new printers =
 
 -- The text of this number, counted from 1, is reached: each one before it describes a printer. Of that text this holds.
 pub record IsReached (texts : List (Option (List ℕ))) (number : ℕ) (P : Option (List ℕ) → Type 0) : Type 0 where
-  pub before : List (Option (List ℕ))
+  pub texts_before : List (Option (List ℕ))
   pub text : Option (List ℕ)
   pub after : List (Option (List ℕ))
-  pub in_order : texts ≡ before ++ text ∷ after
-  pub number_is : number ≡ length before + 1
+  pub in_order : texts ≡ texts_before ++ text ∷ after
+  pub number_is : number ≡ length texts_before + 1
   pub printers : List Printer
-  pub accepted : DescribeFleet before printers
+  pub accepted : DescribeFleet texts_before printers
   pub holds : P text
 
 -- Of the texts that were read between old and new all but the last describe printers;
 -- the last is refused at this line, for this cause, and its number is their count.
 pub record RefusesLast (old new : List (List ℕ)) (number line : ℕ) (cause : Cause) : Type 0 where
-  pub before : List (List ℕ)
+  pub texts_before : List (List ℕ)
   pub text : List ℕ
-  pub read : new ≡ old ++ (before ++ text ∷ [])
-  pub number_is : number ≡ length before + 1
+  pub read : new ≡ old ++ (texts_before ++ text ∷ [])
+  pub number_is : number ≡ length texts_before + 1
   pub printers : List Printer
-  pub accepted : DescribeFleet (map (λ text. Some text) before) printers
+  pub accepted : DescribeFleet (map (λ text. Some text) texts_before) printers
   pub refused : printer_of_text text ≡ Err (Fault line cause)
 
 -- where a profile is refused, no text was read behind its own
@@ -89,7 +89,8 @@ IsEndOfProfile number text _ = ⊥
 
 -- the printer is the one of this text, where that is known, and of the text that was read
 abbrev pub IsNamed : Option (List ℕ) → List (List ℕ) → List (List ℕ) → Printer → Type 0
-IsNamed text before after printer = Describes text printer × DescribeBy before after (printer ∷ [])
+IsNamed text given_before given_after printer = Describes text printer ×
+    DescribeBy given_before given_after (printer ∷ [])
 
 -- where the profile is refused, it is the first one, and that is what is wrong with it
 abbrev pub RefusesOne : Option (List ℕ) → Status → Type 0

@@ -4,8 +4,8 @@ use Rattle.pcl_items.specs.Items.{Entry, Placed, Text, Reset, ExitLanguage, PjlL
 use Rattle.page_env.specs.JobControl.{is_reset}
 use Rattle.notes.specs.declared.note.Note.TheVariants.{OpenStart, PjlAsText, FractionOfUnit, LaterLanguage}
 use Rattle.notes.specs.declared.note.Note.TheVariants.{OtherLanguage}
-use Rattle.notes.specs.declared.past.Front.{Front}
-use Rattle.notes.specs.declared.past.Front.TheVariants.{NoText, One, Two, Three, More}
+use Rattle.notes.specs.declared.past.TextPrefix.{TextPrefix}
+use Rattle.notes.specs.declared.past.TextPrefix.TheVariants.{NoText, One, Two, Three, More}
 use Rattle.notes.specs.declared.past.Past.{Past}
 use Rattle.notes.specs.declared.past.Spelled.{Spelled}
 use Rattle.notes.specs.declared.past.Spelled.TheVariants.{Nothing, At, AtP, AtPj, Other}
@@ -50,9 +50,9 @@ nothing_behind : (spelled : Spelled) (item : Entry) → is_nothing (spelled_behi
 nothing_behind spelled (Text code) = nothing_with spelled code
 nothing_behind spelled _ = refl
 
-nothing_is : (before : List Placed) → is_nothing (past_of before).spelled ≡ ends_word [] before
+nothing_is : (items_before : List Placed) → is_nothing (past_of items_before).spelled ≡ ends_word [] items_before
 nothing_is [] = refl
-nothing_is (x ∷ before) = nothing_behind (past_of before).spelled x.item
+nothing_is (x ∷ items_before) = nothing_behind (past_of items_before).spelled x.item
 
 at_with : (spelled : Spelled) (code : ℕ) → is_at (spelled_with spelled code) ≡ (code == 64) && is_nothing spelled
 at_with Nothing code = elim (code == 64) as (λ b. is_at (cond b At Other) ≡ b && true) [ true ↦ refl | false ↦ refl ]
@@ -66,9 +66,9 @@ at_behind : (spelled : Spelled) (item : Entry) → is_at (spelled_behind spelled
 at_behind spelled (Text code) = at_with spelled code
 at_behind spelled _ = refl
 
-at_is : (before : List Placed) → is_at (past_of before).spelled ≡ ends_word (64 ∷ []) before
+at_is : (items_before : List Placed) → is_at (past_of items_before).spelled ≡ ends_word (64 ∷ []) items_before
 at_is [] = refl
-at_is (x ∷ before) = at_behind (past_of before).spelled x.item ∙ ap (λ b. is_byte 64 x.item && b) (nothing_is before)
+at_is (x ∷ items_before) = at_behind (past_of items_before).spelled x.item ∙ ap (λ b. is_byte 64 x.item && b) (nothing_is items_before)
 
 at_p_with : (spelled : Spelled) (code : ℕ) → is_at_p (spelled_with spelled code) ≡ (code == 80) && is_at spelled
 at_p_with Nothing code =
@@ -83,9 +83,9 @@ at_p_behind : (spelled : Spelled) (item : Entry) → is_at_p (spelled_behind spe
 at_p_behind spelled (Text code) = at_p_with spelled code
 at_p_behind spelled _ = refl
 
-at_p_is : (before : List Placed) → is_at_p (past_of before).spelled ≡ ends_word (80 ∷ 64 ∷ []) before
+at_p_is : (items_before : List Placed) → is_at_p (past_of items_before).spelled ≡ ends_word (80 ∷ 64 ∷ []) items_before
 at_p_is [] = refl
-at_p_is (x ∷ before) = at_p_behind (past_of before).spelled x.item ∙ ap (λ b. is_byte 80 x.item && b) (at_is before)
+at_p_is (x ∷ items_before) = at_p_behind (past_of items_before).spelled x.item ∙ ap (λ b. is_byte 80 x.item && b) (at_is items_before)
 
 at_pj_with : (spelled : Spelled) (code : ℕ) → is_at_pj (spelled_with spelled code) ≡ (code == 74) && is_at_p spelled
 at_pj_with Nothing code =
@@ -100,9 +100,9 @@ at_pj_behind : (spelled : Spelled) (item : Entry) → is_at_pj (spelled_behind s
 at_pj_behind spelled (Text code) = at_pj_with spelled code
 at_pj_behind spelled _ = refl
 
-at_pj_is : (before : List Placed) → is_at_pj (past_of before).spelled ≡ ends_word (74 ∷ 80 ∷ 64 ∷ []) before
+at_pj_is : (items_before : List Placed) → is_at_pj (past_of items_before).spelled ≡ ends_word (74 ∷ 80 ∷ 64 ∷ []) items_before
 at_pj_is [] = refl
-at_pj_is (x ∷ before) = at_pj_behind (past_of before).spelled x.item ∙ ap (λ b. is_byte 74 x.item && b) (at_p_is before)
+at_pj_is (x ∷ items_before) = at_pj_behind (past_of items_before).spelled x.item ∙ ap (λ b. is_byte 74 x.item && b) (at_p_is items_before)
 
 job_word_with : (spelled : Spelled) (item : Entry) → ends_job_word spelled item ≡ is_byte 76 item && is_at_pj spelled
 job_word_with Nothing item = sym (and_false (is_byte 76 item))
@@ -111,49 +111,49 @@ job_word_with AtP item = sym (and_false (is_byte 76 item))
 job_word_with AtPj item = sym (and_true (is_byte 76 item))
 job_word_with Other item = sym (and_false (is_byte 76 item))
 
-job_word_is : (before : List Placed) (x : Placed) → ends_job_word (past_of before).spelled x.item ≡ is_job_word before x
-job_word_is before x = job_word_with (past_of before).spelled x.item ∙ ap (λ b. is_byte 76 x.item && b) (at_pj_is before)
+job_word_is : (items_before : List Placed) (x : Placed) → ends_job_word (past_of items_before).spelled x.item ≡ is_job_word items_before x
+job_word_is items_before x = job_word_with (past_of items_before).spelled x.item ∙ ap (λ b. is_byte 76 x.item && b) (at_pj_is items_before)
 
 -- ---- the word with which text begins
 
-abbrev is_no_text : Front → Bool
+abbrev is_no_text : TextPrefix → Bool
 is_no_text NoText = true
 is_no_text _ = false
 
-abbrev is_one : ℕ → Front → Bool
+abbrev is_one : ℕ → TextPrefix → Bool
 is_one first (One a) = a == first
 is_one first _ = false
 
-abbrev is_two : ℕ → ℕ → Front → Bool
+abbrev is_two : ℕ → ℕ → TextPrefix → Bool
 is_two first second (Two a b) = (b == second) && (a == first)
 is_two first second _ = false
 
-no_text_with : (front : Front) (code : ℕ) → is_no_text (front_with front code) ≡ false
+no_text_with : (front : TextPrefix) (code : ℕ) → is_no_text (front_with front code) ≡ false
 no_text_with NoText code = refl
 no_text_with (One a) code = refl
 no_text_with (Two a b) code = refl
 no_text_with (Three a b c) code = refl
 no_text_with More code = refl
 
-no_text_behind : (front : Front) (item : Entry) → is_no_text (front_behind front item) ≡ not (acts item)
+no_text_behind : (front : TextPrefix) (item : Entry) → is_no_text (front_behind front item) ≡ not (acts item)
 no_text_behind front (Text code) = no_text_with front code
 no_text_behind front Reset = refl
 no_text_behind front ExitLanguage = refl
 no_text_behind front (PjlLine line) = refl
 no_text_behind front _ = refl
 
-no_text_is : (before : List Placed) → is_no_text (past_of before).front ≡ begins_with [] before
+no_text_is : (items_before : List Placed) → is_no_text (past_of items_before).front ≡ begins_with [] items_before
 no_text_is [] = refl
-no_text_is (x ∷ before) = no_text_behind (past_of before).front x.item
+no_text_is (x ∷ items_before) = no_text_behind (past_of items_before).front x.item
 
-one_with : (first : ℕ) (front : Front) (code : ℕ) → is_one first (front_with front code) ≡ (code == first) && is_no_text front
+one_with : (first : ℕ) (front : TextPrefix) (code : ℕ) → is_one first (front_with front code) ≡ (code == first) && is_no_text front
 one_with first NoText code = sym (and_true (code == first))
 one_with first (One a) code = sym (and_false (code == first))
 one_with first (Two a b) code = sym (and_false (code == first))
 one_with first (Three a b c) code = sym (and_false (code == first))
 one_with first More code = sym (and_false (code == first))
 
-one_behind : (first : ℕ) (front : Front) (item : Entry) →
+one_behind : (first : ℕ) (front : TextPrefix) (item : Entry) →
     is_one first (front_behind front item) ≡ is_byte first item && is_no_text front
 one_behind first front (Text code) = one_with first front code
 one_behind first front Reset = refl
@@ -161,12 +161,12 @@ one_behind first front ExitLanguage = refl
 one_behind first front (PjlLine line) = refl
 one_behind first front _ = refl
 
-one_is : (first : ℕ) (before : List Placed) → is_one first (past_of before).front ≡ begins_with (first ∷ []) before
+one_is : (first : ℕ) (items_before : List Placed) → is_one first (past_of items_before).front ≡ begins_with (first ∷ []) items_before
 one_is first [] = refl
-one_is first (x ∷ before) =
-    one_behind first (past_of before).front x.item ∙ ap (λ b. is_byte first x.item && b) (no_text_is before)
+one_is first (x ∷ items_before) =
+    one_behind first (past_of items_before).front x.item ∙ ap (λ b. is_byte first x.item && b) (no_text_is items_before)
 
-two_with : (first second : ℕ) (front : Front) (code : ℕ) →
+two_with : (first second : ℕ) (front : TextPrefix) (code : ℕ) →
     is_two first second (front_with front code) ≡ (code == second) && is_one first front
 two_with first second NoText code = sym (and_false (code == second))
 two_with first second (One a) code = refl
@@ -174,7 +174,7 @@ two_with first second (Two a b) code = sym (and_false (code == second))
 two_with first second (Three a b c) code = sym (and_false (code == second))
 two_with first second More code = sym (and_false (code == second))
 
-two_behind : (first second : ℕ) (front : Front) (item : Entry) →
+two_behind : (first second : ℕ) (front : TextPrefix) (item : Entry) →
     is_two first second (front_behind front item) ≡ is_byte second item && is_one first front
 two_behind first second front (Text code) = two_with first second front code
 two_behind first second front Reset = refl
@@ -182,13 +182,13 @@ two_behind first second front ExitLanguage = refl
 two_behind first second front (PjlLine line) = refl
 two_behind first second front _ = refl
 
-two_is : (first second : ℕ) (before : List Placed) →
-    is_two first second (past_of before).front ≡ begins_with (second ∷ first ∷ []) before
+two_is : (first second : ℕ) (items_before : List Placed) →
+    is_two first second (past_of items_before).front ≡ begins_with (second ∷ first ∷ []) items_before
 two_is first second [] = refl
-two_is first second (x ∷ before) =
-    two_behind first second (past_of before).front x.item ∙ ap (λ b. is_byte second x.item && b) (one_is first before)
+two_is first second (x ∷ items_before) =
+    two_behind first second (past_of items_before).front x.item ∙ ap (λ b. is_byte second x.item && b) (one_is first items_before)
 
-three_with : (first second third : ℕ) (front : Front) (code : ℕ) →
+three_with : (first second third : ℕ) (front : TextPrefix) (code : ℕ) →
     is_three first second third (front_with front code) ≡ (code == third) && is_two first second front
 three_with first second third NoText code = sym (and_false (code == third))
 three_with first second third (One a) code = sym (and_false (code == third))
@@ -196,7 +196,7 @@ three_with first second third (Two a b) code = refl
 three_with first second third (Three a b c) code = sym (and_false (code == third))
 three_with first second third More code = sym (and_false (code == third))
 
-three_behind : (first second third : ℕ) (front : Front) (item : Entry) →
+three_behind : (first second third : ℕ) (front : TextPrefix) (item : Entry) →
     is_three first second third (front_behind front item) ≡ is_byte third item && is_two first second front
 three_behind first second third front (Text code) = three_with first second third front code
 three_behind first second third front Reset = refl
@@ -204,42 +204,43 @@ three_behind first second third front ExitLanguage = refl
 three_behind first second third front (PjlLine line) = refl
 three_behind first second third front _ = refl
 
-three_is : (first second third : ℕ) (before : List Placed) →
-    is_three first second third (past_of before).front ≡ begins_with (third ∷ second ∷ first ∷ []) before
+three_is : (first second third : ℕ) (items_before : List Placed) →
+    is_three first second third (past_of items_before).front ≡ begins_with (third ∷ second ∷ first ∷ []) items_before
 three_is first second third [] = refl
-three_is first second third (x ∷ before) =
-    three_behind first second third (past_of before).front x.item
-    ∙ ap (λ b. is_byte third x.item && b) (two_is first second before)
+three_is first second third (x ∷ items_before) =
+    three_behind first second third (past_of items_before).front x.item
+    ∙ ap (λ b. is_byte third x.item && b) (two_is first second items_before)
 
-spells_is : (before : List Placed) (x : Placed) (first second third fourth : ℕ) →
-    spells (past_of before).front x.item first second third fourth
-    ≡ begins_with (fourth ∷ third ∷ second ∷ first ∷ []) (x ∷ before)
-spells_is before x first second third fourth = ap (λ b. is_byte fourth x.item && b) (three_is first second third before)
+spells_is : (items_before : List Placed) (x : Placed) (first second third fourth : ℕ) →
+    spells (past_of items_before).front x.item first second third fourth
+    ≡ begins_with (fourth ∷ third ∷ second ∷ first ∷ []) (x ∷ items_before)
+spells_is items_before x first second third fourth = ap (λ b. is_byte fourth x.item && b) (three_is first second third items_before)
 
-other_is : (before : List Placed) (x : Placed) → ends_other_word (past_of before).front x.item ≡ is_other_language before x
-other_is before x = λ i.
-    (spells_is before x 37 33 80 83 i || (spells_is before x 37 80 68 70 i || spells_is before x 41 32 72 80 i))
-    || (spells_is before x 71 73 70 56 i
-    || (spells_is before x 137 80 78 71 i
-    || (spells_is before x 255 216 255 224 i
-    || (spells_is before x 255 216 255 225 i
-    || (spells_is before x 255 216 255 238 i || spells_is before x 255 216 255 219 i)))))
+other_is : (items_before : List Placed) (x : Placed) → ends_other_word (past_of items_before).front x.item ≡
+    is_other_language items_before x
+other_is items_before x = λ i.
+    (spells_is items_before x 37 33 80 83 i || (spells_is items_before x 37 80 68 70 i || spells_is items_before x 41 32 72 80 i))
+    || (spells_is items_before x 71 73 70 56 i
+    || (spells_is items_before x 137 80 78 71 i
+    || (spells_is items_before x 255 216 255 224 i
+    || (spells_is items_before x 255 216 255 225 i
+    || (spells_is items_before x 255 216 255 238 i || spells_is items_before x 255 216 255 219 i)))))
 
 -- ---- resets
 
-reset_is : (before : List Placed) → (past_of before).has_reset ≡ has_reset before
+reset_is : (items_before : List Placed) → (past_of items_before).has_reset ≡ has_reset items_before
 reset_is [] = refl
-reset_is (x ∷ before) = ap (λ b. is_reset x.item || b) (reset_is before)
+reset_is (x ∷ items_before) = ap (λ b. is_reset x.item || b) (reset_is items_before)
 
 -- ---- the notes
 
-pub past_is : (before : List Placed) (x : Placed) → past_notes (past_of before) x ≡ item_notes before x
-past_is before x = λ i.
-    told_if (acts x.item && not (reset_is before i)) x.place OpenStart
-    ++ told_if (job_word_is before x i) (x.place - 3) PjlAsText
+pub past_is : (items_before : List Placed) (x : Placed) → past_notes (past_of items_before) x ≡ item_notes items_before x
+past_is items_before x = λ i.
+    told_if (acts x.item && not (reset_is items_before i)) x.place OpenStart
+    ++ told_if (job_word_is items_before x i) (x.place - 3) PjlAsText
     ++ told_if (is_fraction x.item) x.place FractionOfUnit
     ++ told_if (is_later x.item) x.place LaterLanguage
-    ++ told_if (other_is before x i) (x.place - 3) OtherLanguage
+    ++ told_if (other_is items_before x i) (x.place - 3) OtherLanguage
 
 -- ---- behind the last reset
 

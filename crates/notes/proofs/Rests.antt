@@ -27,7 +27,7 @@ use Rattle.renderings.specs.declared.outcome.Outcome.{Outcome}
 use Rattle.renderings.specs.declared.outcome.Outcome.TheVariants.{Done as AllDone, Fail}
 use Rattle.verdict.specs.declared.reason.Reason.TheVariants.{Finding as FindingOfRun}
 use Rattle.verdict.specs.Failing.{fault_at}
-use Rattle.renderings.specs.Due.{Rendering, nothing_at_fault}
+use Rattle.renderings.specs.Expected.{Rendering, nothing_at_fault}
 use Rattle.renderings.specs.Outcomes.{fails_with}
 use Rattle.renderings.specs.PageTexts.{run_outcome}
 use Rattle.renderings.specs.Texts.{reading_outcome}

@@ -27,7 +27,7 @@ has_reset items = list_any (λ (x : Placed). is_reset x.item) items
 
 -- 101 OpenStart: an item acts, and no reset stands before it
 abbrev pub is_open_start : List Placed → Entry → Bool
-is_open_start before item = acts item && not (has_reset before)
+is_open_start items_before item = acts item && not (has_reset items_before)
 
 -- 102 OpenEnd: of these items one acts, and no reset stands behind it
 abbrev pub is_open_end : List Placed → Bool
@@ -47,13 +47,13 @@ is_byte code _ = false
 -- of items, the nearest first, the nearest one is text
 abbrev pub is_behind_text : List Placed → Bool
 is_behind_text [] = false
-is_behind_text (x ∷ before) = is_text x.item
+is_behind_text (x ∷ items_before) = is_text x.item
 
 -- of items, the nearest first, the nearest are the bytes of a word, its last one first, with which a text begins
 abbrev pub ends_word : List ℕ → List Placed → Bool
-ends_word [] before = not (is_behind_text before)
+ends_word [] items_before = not (is_behind_text items_before)
 ends_word (code ∷ word) [] = false
-ends_word (code ∷ word) (x ∷ before) = is_byte code x.item && ends_word word before
+ends_word (code ∷ word) (x ∷ items_before) = is_byte code x.item && ends_word word items_before
 
 -- `@PJL`, its last byte first
 abbrev pub job_word : List ℕ
@@ -61,21 +61,21 @@ job_word = 76 ∷ 74 ∷ 80 ∷ 64 ∷ []
 
 -- 104 PjlAsText: the item is the last byte of `@PJL`, with which a text begins
 abbrev pub is_job_word : List Placed → Placed → Bool
-is_job_word before x = ends_word job_word (x ∷ before)
+is_job_word items_before x = ends_word job_word (x ∷ items_before)
 
 -- ---- another language: the bytes with which its files begin are text where the mode is PCL
 
 -- of items, the nearest first, the nearest one prints, moves or sets
 abbrev pub is_behind_action : List Placed → Bool
 is_behind_action [] = false
-is_behind_action (x ∷ before) = acts x.item
+is_behind_action (x ∷ items_before) = acts x.item
 
 -- Of items, the nearest first, the nearest are the bytes of a word, its last one first,
 -- and before these stands nothing, or a reset, the universal exit or a line of the job language.
 abbrev pub begins_with : List ℕ → List Placed → Bool
-begins_with [] before = not (is_behind_action before)
+begins_with [] items_before = not (is_behind_action items_before)
 begins_with (code ∷ word) [] = false
-begins_with (code ∷ word) (x ∷ before) = is_byte code x.item && begins_with word before
+begins_with (code ∷ word) (x ∷ items_before) = is_byte code x.item && begins_with word items_before
 
 -- the nearest are `%!PS`, `%PDF`, or `) HP` of PCL XL
 abbrev pub begins_document : List Placed → Bool
@@ -97,7 +97,7 @@ begins_image items =
 
 -- 113 OtherLanguage: the item is the fourth byte of a document or an image of another language
 abbrev pub is_other_language : List Placed → Placed → Bool
-is_other_language before x = begins_document (x ∷ before) || begins_image (x ∷ before)
+is_other_language items_before x = begins_document (x ∷ items_before) || begins_image (x ∷ items_before)
 
 -- ---- what printers read otherwise
 
@@ -126,9 +126,9 @@ is_later _ = false
 -- The notes of an item by what stands before it, the nearest first.
 -- What begins `@PJL` stands three bytes before the last of it, and so does what begins a word of another language.
 abbrev pub item_notes : List Placed → Placed → List Told
-item_notes before x =
-    told_if (is_open_start before x.item) x.place OpenStart
-    ++ told_if (is_job_word before x) (x.place - 3) PjlAsText
+item_notes items_before x =
+    told_if (is_open_start items_before x.item) x.place OpenStart
+    ++ told_if (is_job_word items_before x) (x.place - 3) PjlAsText
     ++ told_if (is_fraction x.item) x.place FractionOfUnit
     ++ told_if (is_later x.item) x.place LaterLanguage
-    ++ told_if (is_other_language before x) (x.place - 3) OtherLanguage
+    ++ told_if (is_other_language items_before x) (x.place - 3) OtherLanguage

@@ -14,7 +14,7 @@ use Rattle.page_machine.specs.Job.{JobRun, events_of, with_macros, plain_run}
 use Rattle.verdict.specs.Limits.{is_many_items}
 use Rattle.renderings.specs.declared.outcome.Outcome.{Outcome}
 use Rattle.renderings.specs.declared.outcome.Outcome.TheVariants.{Done as AllDone, Fail}
-use Rattle.renderings.specs.Due.{Rendering, nothing_at_fault}
+use Rattle.renderings.specs.Expected.{Rendering, nothing_at_fault}
 use Rattle.renderings.specs.PageTexts.{pages_outcome}
 use Rattle.notes.specs.declared.note.TheConstants.{MOST_ITEMS}
 use Rattle.notes.specs.declared.note.Note.TheVariants.{OpenEnd, NoPage, ShortRaster, LongRun}
@@ -35,13 +35,15 @@ ended_notes printer macros x s (Halts finding) next = []
 
 -- of items behind these, the nearest first, from these macros and this state;
 -- and then what comes last, of the state behind them
-abbrev pub notes_of_items : Printer → Settings → (finally : State → List Told) → (before : List Placed) → List Placed →
+abbrev pub notes_of_items : Printer → Settings → (finally : State → List Told) →
+    (items_before : List Placed) → List Placed →
     Store → State → List Told
-notes_of_items printer defaults finally before [] macros s = finally s
-notes_of_items printer defaults finally before (x ∷ items) macros s =
-    item_notes before x
+notes_of_items printer defaults finally items_before [] macros s = finally s
+notes_of_items printer defaults finally items_before (x ∷ items) macros s =
+    item_notes items_before x
     ++ ended_notes printer macros x s (job_item_run (with_macros printer defaults macros) x.item s).ending
-    (notes_of_items printer defaults finally (x ∷ before) items (macros_after s.settings.job.macro_id x.item macros))
+    (notes_of_items printer defaults finally (x ∷ items_before) items
+    (macros_after s.settings.job.macro_id x.item macros))
 
 -- ---- its end
 

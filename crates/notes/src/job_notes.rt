@@ -4,7 +4,7 @@ ghost use Rattle.device_profile.specs.Printer.{IsAllowed};
 ghost use Rattle.notes.specs.Carriers.Rest.{WritesNotes, notes_from};
 ghost use Rattle.notes.specs.Notes.{long_run, noted_outcome, notes_at_end, notes_rendering};
 ghost use Rattle.renderings.specs.Carriers.Rests.{faults_matter};
-ghost use Rattle.renderings.specs.Due.{Renders};
+ghost use Rattle.renderings.specs.Expected.{Renders};
 ghost use Rattle.renderings.specs.Outcomes.{fails_with};
 ghost use Rattle.verdict.specs.Failing.{found_at};
 

@@ -26,7 +26,7 @@ pub enum Spelled {
 /// The bytes of text before an item, from where text begins behind a reset, the universal exit or a
 /// line of the job language, or at the beginning of the job.
 #[derive(Clone, Copy, PartialEq, Eq)]
-pub enum Front {
+pub enum TextPrefix {
     /// Nothing stands there.
     NoText,
     One(u8),
@@ -44,7 +44,7 @@ pub struct Past {
     /// Behind the last of these one prints, moves or sets.
     pub is_open: bool,
     pub spelled: Spelled,
-    pub front: Front,
+    pub front: TextPrefix,
 }
 
 /// Whether an item is a reset: the universal exit is one, too.
@@ -87,26 +87,26 @@ fn spelled_behind(spelled: Spelled, item: &Item<'_>) -> Spelled
 }
 
 /// The bytes of text behind one more.
-fn front_with(front: Front, code: u8) -> Front
+fn front_with(front: TextPrefix, code: u8) -> TextPrefix
     ensures { result ≡ front_with front code }
 {
     match front {
-        Front::NoText => Front::One(code),
-        Front::One(first) => Front::Two(first, code),
-        Front::Two(first, second) => Front::Three(first, second, code),
-        Front::Three(_, _, _) | Front::More => Front::More,
+        TextPrefix::NoText => TextPrefix::One(code),
+        TextPrefix::One(first) => TextPrefix::Two(first, code),
+        TextPrefix::Two(first, second) => TextPrefix::Three(first, second, code),
+        TextPrefix::Three(_, _, _) | TextPrefix::More => TextPrefix::More,
     }
 }
 
 /// The bytes of text behind an item.
-fn front_behind(front: Front, item: &Item<'_>) -> Front
+fn front_behind(front: TextPrefix, item: &Item<'_>) -> TextPrefix
     ensures { result ≡ front_behind front (view item.now) }
 {
     match item {
         Item::Text(byte) => front_with(front, byte.code),
-        Item::Simple(SimpleItem::Reset | SimpleItem::ExitLanguage) => Front::NoText,
-        Item::PjlLine(_) => Front::NoText,
-        _ => Front::More,
+        Item::Simple(SimpleItem::Reset | SimpleItem::ExitLanguage) => TextPrefix::NoText,
+        Item::PjlLine(_) => TextPrefix::NoText,
+        _ => TextPrefix::More,
     }
 }
 
@@ -119,7 +119,7 @@ impl Past {
             has_reset: false,
             is_open: false,
             spelled: Spelled::Nothing,
-            front: Front::NoText,
+            front: TextPrefix::NoText,
         }
     }
 

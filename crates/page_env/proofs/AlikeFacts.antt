@@ -63,7 +63,7 @@ module _ (panel : Panel) where
 -- Two lines, the second at the panel: they check the same before they read, read the same, and where nothing of that is unset they
 -- are the same but for the state.
 pub record IsAlike (panel : Panel) (s : State) (line line' : TableLine) : Type 0 where
-  pub before : line'.before ≡ line.before
+  pub checks_before : line'.checks_before ≡ line.checks_before
   pub reads : line'.reads ≡ line.reads
   pub same : first_unset s.settings line.reads ≡ None → line' ≡ record line { state = state_with panel line.state }
 
@@ -72,11 +72,11 @@ module _ (panel : Panel) (s : State) (line line' : TableLine) (alike : IsAlike p
   pub judged_alike : (e e' : Effect) → (line' ≡ record line { state = state_with panel line.state } → GoesAlike panel e e') →
       GoesAlike panel (judged s.settings line e) (judged (settings_with panel s.settings) line' e')
   judged_alike e e' h =
-      behind_check panel (first_finding line.before) (first_finding line'.before) _ _ (ap first_finding alike.before)
+      behind_check panel (first_finding line.checks_before) (first_finding line'.checks_before) _ _ (ap first_finding alike.checks_before)
       (λ none. behind_reads panel (first_unset s.settings line.reads) (first_unset (settings_with panel s.settings) line'.reads) _ _
       (ap (λ reads. first_unset (settings_with panel s.settings) reads) alike.reads ∙ same_first_unset panel s.settings line.reads)
-      (λ set. behind_check panel (first_finding line.after) (first_finding line'.after) e e'
-      (ap (λ l. first_finding l.after) (alike.same set)) (λ none. h (alike.same set))))
+      (λ set. behind_check panel (first_finding line.checks_after) (first_finding line'.checks_after) e e'
+      (ap (λ l. first_finding l.checks_after) (alike.same set)) (λ none. h (alike.same set))))
 
   pub step_alike : GoesAlike panel (effect_of s.settings (Step line)) (effect_of (settings_with panel s.settings) (Step line'))
   step_alike =
@@ -96,7 +96,11 @@ module _ (panel : Panel) (s : State) (line line' : TableLine) (alike : IsAlike p
 -- a line that reads nothing, or nothing of what the panel chooses
 pub plainly_alike : (panel : Panel) (s : State) (line line' : TableLine) → line' ≡ record line { state = state_with panel line.state } →
     IsAlike panel s line line'
-plainly_alike panel s line line' same = record { before = ap (λ l. l.before) same; reads = ap (λ l. l.reads) same; same = λ set. same }
+plainly_alike panel s line line' same = record {
+  checks_before = ap (λ l. l.checks_before) same;
+  reads = ap (λ l. l.reads) same;
+  same = λ set. same;
+}
 
 -- ---- what is known of a state in which fields that are read are not unset
 

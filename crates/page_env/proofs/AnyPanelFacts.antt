@@ -92,25 +92,37 @@ module _ (printer : Printer) (panel : Panel) where
     plain line same = plainly_alike panel s (line s) (line (there s)) same
 
     draw_alike : (to : PenPlace) → IsAlike panel s (draw printer s to) (draw printer (there s) to)
-    draw_alike to = record { before = refl; reads = refl; same = by_page s (λ t. draw printer t to) (λ t. refl) }
+    draw_alike to = record { checks_before = refl; reads = refl; same = by_page s (λ t. draw printer t to) (λ t. refl) }
 
     leave_at_pen_alike : IsAlike panel s (leave_at_pen printer s) (leave_at_pen printer (there s))
-    leave_at_pen_alike = record { before = refl; reads = refl; same = by_page s (λ t. leave_at_pen printer t) (λ t. refl) }
+    leave_at_pen_alike = record { checks_before = refl; reads = refl; same = by_page s (λ t. leave_at_pen printer t) (λ t. refl) }
 
     move_x_alike : (n : Amount) → IsAlike panel s (move_x printer s n) (move_x printer (there s) n)
-    move_x_alike n = record { before = refl; reads = refl; same = by_page s (λ t. move_x printer t n) (λ t. refl) }
+    move_x_alike n = record { checks_before = refl; reads = refl; same = by_page s (λ t. move_x printer t n) (λ t. refl) }
 
     move_x_decipoints_alike : (n : Amount) → IsAlike panel s (move_x_decipoints printer s n) (move_x_decipoints printer (there s) n)
-    move_x_decipoints_alike n = record { before = refl; reads = refl; same = by_page s (λ t. move_x_decipoints printer t n) (λ t. refl) }
+    move_x_decipoints_alike n = record {
+      checks_before = refl;
+      reads = refl;
+      same = by_page s (λ t. move_x_decipoints printer t n) (λ t. refl);
+    }
 
     top_margin_alike : (n : Amount) → IsAlike panel s (set_top_margin printer s n) (set_top_margin printer (there s) n)
-    top_margin_alike n = record { before = refl; reads = refl; same = by_line s (Same (λ t. set_top_margin printer t n)) (λ t. refl) }
+    top_margin_alike n = record {
+      checks_before = refl;
+      reads = refl;
+      same = by_line s (Same (λ t. set_top_margin printer t n)) (λ t. refl);
+    }
 
     text_length_alike : (n : Amount) → IsAlike panel s (set_text_length printer s n) (set_text_length printer (there s) n)
-    text_length_alike n = record { before = refl; reads = refl; same = by_line s (Same (λ t. set_text_length printer t n)) (λ t. refl) }
+    text_length_alike n = record {
+      checks_before = refl;
+      reads = refl;
+      same = by_line s (Same (λ t. set_text_length printer t n)) (λ t. refl);
+    }
 
     move_rows_alike : (n : Amount) → IsAlike panel s (move_rows printer s n) (move_rows printer (there s) n)
-    move_rows_alike n = record { before = refl; reads = refl; same = by_line s (Same (λ t. move_rows printer t n)) (λ t. refl) }
+    move_rows_alike n = record { checks_before = refl; reads = refl; same = by_line s (Same (λ t. move_rows printer t n)) (λ t. refl) }
 
     by_columns : (line : State → TableLine) →
         ((t : State) (parts : FontParts) → Same line (faced (with_parts_of (with_hmi (paged t) None) parts))) →
@@ -124,21 +136,21 @@ module _ (printer : Printer) (panel : Panel) where
 
     left_margin_alike : (n : Amount) → IsAlike panel s (set_left_margin printer s n) (set_left_margin printer (there s) n)
     left_margin_alike n = record {
-      before = refl;
+      checks_before = refl;
       reads = refl;
       same = by_columns (λ t. set_left_margin printer t n) (λ t parts. refl) (λ t a b c d e w f. refl) (λ t hmi. refl);
     }
 
     right_margin_alike : (n : Amount) → IsAlike panel s (set_right_margin printer s n) (set_right_margin printer (there s) n)
     right_margin_alike n = record {
-      before = refl;
+      checks_before = refl;
       reads = refl;
       same = by_columns (λ t. set_right_margin printer t n) (λ t parts. refl) (λ t a b c d e w f. refl) (λ t hmi. refl);
     }
 
     move_columns_alike : (n : Amount) → IsAlike panel s (move_columns printer s n) (move_columns printer (there s) n)
     move_columns_alike n = record {
-      before = refl;
+      checks_before = refl;
       reads = refl;
       same = by_columns (λ t. move_columns printer t n) (λ t parts. refl) (λ t a b c d e w f. refl) (λ t hmi. refl);
     }
@@ -147,17 +159,17 @@ module _ (printer : Printer) (panel : Panel) where
     vertical_alike : (ten_thousandths : ℕ) (sign : Sign) → let n : Amount =
         record { sign = sign; ten_thousandths = ten_thousandths } in IsAlike panel s (move_y printer s n) (move_y printer (there s) n)
     vertical_alike k Absent = record {
-      before = refl;
+      checks_before = refl;
       reads = refl;
       same = λ set. page_set (Same (λ t. move_y printer t (record { sign = Absent; ten_thousandths = k }))) s [] set (λ none. refl);
     }
     vertical_alike k Plus = record {
-      before = refl;
+      checks_before = refl;
       reads = refl;
       same = by_page_and_place s (λ t. move_y printer t (record { sign = Plus; ten_thousandths = k })) (λ t. refl) (λ t y. refl);
     }
     vertical_alike k Minus = record {
-      before = refl;
+      checks_before = refl;
       reads = refl;
       same = by_page_and_place s (λ t. move_y printer t (record { sign = Minus; ten_thousandths = k })) (λ t. refl) (λ t y. refl);
     }
@@ -166,46 +178,59 @@ module _ (printer : Printer) (panel : Panel) where
         record { sign = sign; ten_thousandths = ten_thousandths } in IsAlike panel s (move_y_decipoints printer s n)
         (move_y_decipoints printer (there s) n)
     vertical_decipoints_alike k Absent = record {
-      before = refl;
+      checks_before = refl;
       reads = refl;
       same =
           λ set. page_set (Same (λ t. move_y_decipoints printer t (record { sign = Absent; ten_thousandths = k }))) s [] set (λ none. refl);
     }
     vertical_decipoints_alike k Plus = record {
-      before = refl;
+      checks_before = refl;
       reads = refl;
       same = by_page_and_place s (λ t. move_y_decipoints printer t (record { sign = Plus; ten_thousandths = k })) (λ t. refl) (λ t y. refl);
     }
     vertical_decipoints_alike k Minus = record {
-      before = refl;
+      checks_before = refl;
       reads = refl;
       same =
           by_page_and_place s (λ t. move_y_decipoints printer t (record { sign = Minus; ten_thousandths = k })) (λ t. refl) (λ t y. refl);
     }
 
     push_alike : (n : Amount) → IsAlike panel s (push_cursor s n) (push_cursor (there s) n)
-    push_alike n = record { before = refl; reads = refl; same = by_place s (λ t. push_cursor t n) (λ t. refl) (λ t y. refl) }
+    push_alike n = record { checks_before = refl; reads = refl; same = by_place s (λ t. push_cursor t n) (λ t. refl) (λ t y. refl) }
 
     anchor_alike : (n : Amount) → IsAlike panel s (set_frame_anchor s n) (set_frame_anchor (there s) n)
-    anchor_alike n = record { before = refl; reads = refl; same = by_place s (λ t. set_frame_anchor t n) (λ t. refl) (λ t y. refl) }
+    anchor_alike n = record { checks_before = refl; reads = refl; same = by_place s (λ t. set_frame_anchor t n) (λ t. refl) (λ t y. refl) }
 
     fill_alike : (n : Amount) → IsAlike panel s (fill_rectangle printer s n) (fill_rectangle printer (there s) n)
     fill_alike n =
-        record { before = refl; reads = refl; same = by_page_and_place s (λ t. fill_rectangle printer t n) (λ t. refl) (λ t y. refl) }
+        record {
+          checks_before = refl;
+          reads = refl;
+          same = by_page_and_place s (λ t. fill_rectangle printer t n) (λ t. refl)
+              (λ t y. refl);
+        }
 
     start_alike : (n : Amount) → IsAlike panel s (start_raster s n) (start_raster (there s) n)
-    start_alike n = record { before = refl; reads = refl; same = by_page_and_place s (λ t. start_raster t n) (λ t. refl) (λ t y. refl) }
+    start_alike n = record {
+      checks_before = refl;
+      reads = refl;
+      same = by_page_and_place s (λ t. start_raster t n) (λ t. refl) (λ t y. refl);
+    }
 
     skip_alike : (n : Amount) → IsAlike panel s (skip_rows printer s n) (skip_rows printer (there s) n)
-    skip_alike n = record { before = refl; reads = refl; same = by_page_and_place s (λ t. skip_rows printer t n) (λ t. refl) (λ t y. refl) }
+    skip_alike n = record {
+      checks_before = refl;
+      reads = refl;
+      same = by_page_and_place s (λ t. skip_rows printer t n) (λ t. refl) (λ t y. refl);
+    }
 
     row_alike : (bytes : List ℕ) → IsAlike panel s (print_row printer s bytes) (print_row printer (there s) bytes)
     row_alike bytes =
-        record { before = refl; reads = refl; same = by_page_and_place s (λ t. print_row printer t bytes) (λ t. refl) (λ t y. refl) }
+        record { checks_before = refl; reads = refl; same = by_page_and_place s (λ t. print_row printer t bytes) (λ t. refl) (λ t y. refl) }
 
     enter_alike : IsAlike panel s (enter_at_cursor printer s) (enter_at_cursor printer (there s))
     enter_alike =
-        record { before = refl; reads = refl; same = by_page_and_place s (λ t. enter_at_cursor printer t) (λ t. refl) (λ t y. refl) }
+        record { checks_before = refl; reads = refl; same = by_page_and_place s (λ t. enter_at_cursor printer t) (λ t. refl) (λ t y. refl) }
 
     popped_same : (stack : List Cursor) → popped (there s) stack ≡ there (popped s stack)
     popped_same [] = refl
@@ -243,7 +268,7 @@ module _ (printer : Printer) (panel : Panel) where
 
     character_alike : (code : ℕ) → IsAlike panel s (character printer s code) (character printer (there s) code)
     character_alike code = record {
-      before = refl;
+      checks_before = refl;
       reads = refl;
       same =
           by_font (λ t. character printer t code) (λ t parts. refl) (λ t a b c d e w f. refl) (λ t y parts. refl)
@@ -252,7 +277,7 @@ module _ (printer : Printer) (panel : Panel) where
 
     transparent_space_alike : IsAlike panel s (transparent_space printer s) (transparent_space printer (there s))
     transparent_space_alike = record {
-      before = refl;
+      checks_before = refl;
       reads = refl;
       same =
           by_font (λ t. transparent_space printer t) (λ t parts. refl) (λ t a b c d e w f. refl) (λ t y parts. refl)
@@ -261,7 +286,7 @@ module _ (printer : Printer) (panel : Panel) where
 
     space_alike : IsAlike panel s (space printer s) (space printer (there s))
     space_alike = record {
-      before = refl;
+      checks_before = refl;
       reads = refl;
       same = λ set. by_text (Same (λ t. space printer t)) (column_reads s.settings.job) set
           (λ rest. columns_set (Same (λ t. space printer t)) (spaced (at_place (paged s) None)) rest (λ parts. refl)
@@ -315,7 +340,8 @@ module _ (printer : Printer) (panel : Panel) where
   feed_unset u s y true field set = ap (λ unset. effect.unset_or unset (GoesThenCloses s false at_home)) set
   feed_unset u s y false field set =
       ap
-      (λ unset. effect.unset_or unset (fails_or (first_finding (feed_down printer s y).after) (Goes (feed_down printer s y).state []))) set
+      (λ unset. effect.unset_or unset (fails_or (first_finding (feed_down printer s y).checks_after)
+      (Goes (feed_down printer s y).state []))) set
 
   -- where all that it reads is known, it leads to the same
   feed_known : (by : Feed) (s : State) → let t =

@@ -9,7 +9,7 @@ use Rattle.device_profile.specs.declared.font.SymbolSet.{SymbolSet}
 use Rattle.page_env.specs.declared.mark.Bounds.{Bounds}
 use Rattle.page_env.specs.declared.motion.LineTermination.{LineTermination}
 use Rattle.page_env.specs.declared.places.Origin.{Origin}
-use Rattle.page_env.specs.declared.text_lines.Look.{Look}
+use Rattle.page_env.specs.declared.text_lines.TextAppearance.{TextAppearance}
 use Rattle.page_env.specs.declared.text_lines.TextBounds.{TextBounds}
 
 eq_set_decides : (a b : SymbolSet) → Decides ((a.number == b.number) && (a.letter == b.letter)) (a ≡ b)
@@ -88,13 +88,13 @@ eq_termination_decides a b =
     (λ e. (ap (λ (t : LineTermination). t.feeds_at_return) e, ap (λ (t : LineTermination). t.returns_at_feed) e))
     (Decides-and _ _ (booleans_Decides a.feeds_at_return b.feeds_at_return) (booleans_Decides a.returns_at_feed b.returns_at_feed))
 
-abbrev pub eq_look : Look → Look → Bool
+abbrev pub eq_look : TextAppearance → TextAppearance → Bool
 eq_look a b =
     eq_request a.request b.request
     && (eq_origin a.origin b.origin && (int_eq a.advance b.advance && (int_eq a.ascent b.ascent && (int_eq a.descent b.descent
     && ((a.column == b.column) && (int_eq a.left b.left && (int_eq a.line b.line && eq_termination a.termination b.termination)))))))
 
-pub eq_look_decides : (a b : Look) → Decides (eq_look a b) (a ≡ b)
+pub eq_look_decides : (a b : TextAppearance) → Decides (eq_look a b) (a ≡ b)
 eq_look_decides a b =
     Decides-like _
     (λ h. λ i. record {
@@ -109,18 +109,24 @@ eq_look_decides a b =
       termination = h.1.1.1.1.1.1.1.1 i;
     })
     (λ e. (
-      ap (λ (x : Look). x.request) e,
+      ap (λ (x : TextAppearance). x.request) e,
       (
-        ap (λ (x : Look). x.origin) e,
+        ap (λ (x : TextAppearance). x.origin) e,
         (
-          ap (λ (x : Look). x.advance) e,
+          ap (λ (x : TextAppearance). x.advance) e,
           (
-            ap (λ (x : Look). x.ascent) e,
+            ap (λ (x : TextAppearance). x.ascent) e,
             (
-              ap (λ (x : Look). x.descent) e,
+              ap (λ (x : TextAppearance). x.descent) e,
               (
-                ap (λ (x : Look). x.column) e,
-                (ap (λ (x : Look). x.left) e, (ap (λ (x : Look). x.line) e, ap (λ (x : Look). x.termination) e)),
+                ap (λ (x : TextAppearance). x.column) e,
+                (
+                  ap (λ (x : TextAppearance). x.left) e,
+                  (
+                    ap (λ (x : TextAppearance). x.line) e,
+                    ap (λ (x : TextAppearance). x.termination) e,
+                  ),
+                ),
               ),
             ),
           ),

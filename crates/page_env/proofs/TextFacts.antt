@@ -48,9 +48,10 @@ module _ (printer : Printer) (s : State) where
       g : Geometry
       g = geometry_of printer s
 
-      by_face : (face : Option Face) → ((face : Face) → is_in_order (record (moving s) { after = checks_of printer s code face }) ≡ true) →
-          is_in_order (record (moving s) { after = check true NoFont ∷ [] }) ≡ true →
-          is_in_order (record (moving s) { after = option_map_or (checks_of printer s code) face (check true NoFont ∷ []) }) ≡ true
+      by_face : (face : Option Face) → ((face : Face) → is_in_order
+          (record (moving s) { checks_after = checks_of printer s code face }) ≡ true) →
+          is_in_order (record (moving s) { checks_after = check true NoFont ∷ [] }) ≡ true →
+          is_in_order (record (moving s) { checks_after = option_map_or (checks_of printer s code) face (check true NoFont ∷ []) }) ≡ true
       by_face None some none = none
       by_face (Some face) some none = some face
 

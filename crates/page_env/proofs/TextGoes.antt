@@ -134,7 +134,7 @@ module _ (printer : Printer) (s : State) (m : TextMeasure) (h : IsMeasured print
     module _ (k : HasColumn m place) where
       space_goes : effect_of s.settings (Step (space printer here)) ≡ Goes (stand on s) []
       space_goes =
-          let none : first_finding (space printer here).after ≡ None =
+          let none : first_finding (space printer here).checks_after ≡ None =
           (λ i. first_finding (check (is_none (column_is i)) NoFont ∷ edge_checks (h.right i) (h.width i) place.x (behind_is i)))
           ∙ k.ends in
           goes_line s.settings (space printer here) (Goes (space printer here).state []) refl space_read none
@@ -146,7 +146,7 @@ module _ (printer : Printer) (s : State) (m : TextMeasure) (h : IsMeasured print
           (Character (record { code = code; request = m.look.request; y = m.look.origin.y +ℤ place.y; bounds = box_at m.look place }) ∷ [])
       character_goes code has =
           let x = place.x in
-          let none : first_finding (character printer here code).after ≡ None =
+          let none : first_finding (character printer here code).checks_after ≡ None =
           (λ i. first_finding (option_map_or
           (λ face. check (not (has_code face.codes code)) (NoGlyph code) ∷ edge_checks (h.right i) (h.width i) x (behind_is i)
           ++ check

@@ -97,7 +97,7 @@ character_fails printer s code face g origin y request place_x place_y finding s
     let at : face_of printer s ≡ Some face = ap (λ r. face_for printer.faces r.3) read ∙ sym answers in
     let behind : behind_of printer s ≡ x +ℤ pos (column_with hmi face) =
     ap (λ o. x +ℤ pos (unwrap_or (column_from hmi o) 0)) at ∙ ap (λ o. x +ℤ pos (unwrap_or o 0)) (column_of_face hmi face) in
-    let late : first_finding (character printer s code).after ≡ Some finding =
+    let late : first_finding (character printer s code).checks_after ≡ Some finding =
     (λ i. first_finding (option_map_or
     (λ face. character_checks (read i).0 face code (unwrap_or right (read i).0.logical_width) x (behind i)
     (character_box face ((read i).1.x +ℤ x) ((read i).1.y +ℤ (read i).2)))
@@ -113,7 +113,7 @@ pub space_judged : (printer : Printer) (s : State) (face : Face) (g : Geometry) 
     ◌≡◌ {A = Geometry × Origin × ℤ × FontRequest}
     (geometry_of printer s, origin_of printer s, vertical_place s, request_of printer s) (g, origin, y, request) →
     Some face ≡ face_for printer.faces request →
-    first_finding (transparent_space printer s).after
+    first_finding (transparent_space printer s).checks_after
     ≡ first_finding (edge_checks (unwrap_or s.settings.job.right_margin g.logical_width) g.logical_width s.cursor.x
     (s.cursor.x +ℤ pos (column_with s.settings.job.hmi face)))
 space_judged printer s face g origin y request read answers =

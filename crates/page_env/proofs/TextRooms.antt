@@ -15,7 +15,7 @@ use Rattle.device_profile.specs.Faces.{is_text_of}
 use Rattle.device_profile.specs.Printer.{Printer}
 use Rattle.pcl_items.specs.Lines.{IsOfLines}
 use Rattle.page_env.specs.declared.page.Page.{Page}
-use Rattle.page_env.specs.declared.text_lines.Look.{Look}
+use Rattle.page_env.specs.declared.text_lines.TextAppearance.{TextAppearance}
 use Rattle.page_env.specs.declared.text_lines.TextLines.{TextLines}
 use Rattle.page_env.specs.declared.text_lines.TextPlace.{TextPlace}
 use Rattle.page_env.specs.Settings.{state_at}
@@ -105,7 +105,7 @@ marked_by false n marked =
     always true = refl
     always false = refl
 
-behind_each : (codes : List ℕ) (look : Look) (from : TextPlace) (page : Page) →
+behind_each : (codes : List ℕ) (look : TextAppearance) (from : TextPlace) (page : Page) →
     page_behind_all look from codes (page_at from page)
     ≡ record (page_at (place_behind look codes from) page) { marked = not (glyph_count codes == 0) || page.marked }
 behind_each [] look from page = refl
@@ -114,7 +114,7 @@ behind_each (code ∷ codes) look from page =
     behind_each codes look next (record page { marked = not (is_blank code) || page.marked })
     ∙ (λ i. record (page_at (place_behind look codes next) page) { marked = marked_by (is_blank code) (glyph_count codes) page.marked i })
 
-pub behind_all : (codes : List ℕ) (look : Look) (from : TextPlace) (page : Page) → StandsAt page from →
+pub behind_all : (codes : List ℕ) (look : TextAppearance) (from : TextPlace) (page : Page) → StandsAt page from →
     page_behind_all look from codes page
     ≡ record (page_at (place_behind look codes from) page) { marked = not (glyph_count codes == 0) || page.marked }
 behind_all codes look from page stands =
@@ -128,7 +128,7 @@ room_append : (m : TextMeasure) (xs ys : List ℕ) (place : TextPlace) → AllHa
 room_append m [] ys place h k = k
 room_append m (x ∷ xs) ys place h k = (h.0, room_append m xs ys (behind m.look x place) h.1 k)
 
-place_append : (look : Look) (xs ys : List ℕ) (place : TextPlace) →
+place_append : (look : TextAppearance) (xs ys : List ℕ) (place : TextPlace) →
     place_behind look (xs ++ ys) place ≡ place_behind look ys (place_behind look xs place)
 place_append look [] ys place = refl
 place_append look (x ∷ xs) ys place = place_append look xs ys (behind look x place)
@@ -191,7 +191,7 @@ no_return codes code h = let text = text_of_codes codes code h in grind (arith, 
 no_feed : (codes : List CodeRange) (code : ℕ) → is_text_of codes code ≡ true → (code == 10) ≡ false
 no_feed codes code h = let text = text_of_codes codes code h in grind (arith, nat_tests, text)
 
-text_leads : (look : Look) (ranges : List CodeRange) (code : ℕ) (place : TextPlace) → is_text_of ranges code ≡ true →
+text_leads : (look : TextAppearance) (ranges : List CodeRange) (code : ℕ) (place : TextPlace) → is_text_of ranges code ≡ true →
     behind look code place ≡ record place { x = place.x +ℤ pos look.column }
 text_leads look ranges code place h =
     cond-false (code == 13) _ _ (no_return ranges code h) ∙ cond-false (code == 10) _ _ (no_feed ranges code h)
@@ -208,7 +208,7 @@ run_room m (code ∷ codes) place h k =
           (run_room m codes (record place { x = place.x +ℤ pos m.look.column }) h.1 k.1),
     )
 
-pub run_leads : (look : Look) (ranges : List CodeRange) (codes : List ℕ) (place : TextPlace) → CanGoIn ranges codes →
+pub run_leads : (look : TextAppearance) (ranges : List CodeRange) (codes : List ℕ) (place : TextPlace) → CanGoIn ranges codes →
     record place { x = place.x +ℤ pos (length codes * look.column) } ≡ place_behind look codes place
 run_leads look ranges [] place h =
     let same : place.x +ℤ pos (0 * look.column) ≡ place.x = omega (arith, ints) in

@@ -24,9 +24,9 @@ abbrev pub move_across : Printer → State → List Field → List Check → Sig
 move_across printer s reads checks sign by =
     let x : ℤ = target_of sign (pos 0) s.cursor.x (pos (unwrap_or by 0)) in
     record {
-      before = [];
+      checks_before = [];
       reads = reads;
-      after =
+      checks_after =
           checks ++ check (is_none by) Inexact
           ∷ check (not (is_between (pos 0) (geometry_of printer s).logical_width x)) OffPage ∷ [];
       state = record s { cursor = record s.cursor { x = x } };
@@ -38,9 +38,9 @@ abbrev pub move_down : Printer → State → List Field → Sign → ℤ → Opt
 move_down printer s reads sign zero by =
     let y : ℤ = target_of sign zero (vertical_place s) (pos (unwrap_or by 0)) in
     record {
-      before = [];
+      checks_before = [];
       reads = reads;
-      after =
+      checks_after =
           check (is_none by) Inexact
           ∷ check (not (is_between (pos 0) (geometry_of printer s).logical_height y)) OffPage ∷ [];
       state = record s { cursor = record s.cursor { y = Some y } };
@@ -95,9 +95,9 @@ abbrev pub push_cursor : State → Amount → TableLine
 push_cursor s n =
     let here : Cursor = record s.cursor { y = Some (vertical_place s) } in
     record {
-      before = stack_value n ∷ check (not (nat_lt (length s.stack) stack_room)) StackFull ∷ [];
+      checks_before = stack_value n ∷ check (not (nat_lt (length s.stack) stack_room)) StackFull ∷ [];
       reads = vertical_reads s.cursor.y;
-      after = [];
+      checks_after = [];
       state = record s { cursor = here; stack = here ∷ s.stack };
       marks = [];
     }
@@ -110,9 +110,9 @@ popped s (cursor ∷ stack) = record s { cursor = cursor; stack = stack }
 -- `&f1S` pop
 abbrev pub pop_cursor : State → Amount → TableLine
 pop_cursor s n = record {
-  before = stack_value n ∷ check (length s.stack == 0) StackEmpty ∷ [];
+  checks_before = stack_value n ∷ check (length s.stack == 0) StackEmpty ∷ [];
   reads = [];
-  after = [];
+  checks_after = [];
   state = popped s s.stack;
   marks = [];
 }

@@ -47,9 +47,9 @@ abbrev pub set_frame_anchor : State → Amount → TableLine
 set_frame_anchor s n =
     let y = vertical_place s in
     record {
-      before = check (not (is_whole_between 0 0 n)) BadValue ∷ [];
+      checks_before = check (not (is_whole_between 0 0 n)) BadValue ∷ [];
       reads = vertical_reads s.cursor.y;
-      after = [];
+      checks_after = [];
       state = record (with_frame s (record s.settings.job.frame { left = s.cursor.x; top = y })) {
         cursor = record s.cursor { y = Some y };
       };
@@ -102,9 +102,9 @@ enter_at_cursor printer s =
     let y = vertical_place s in
     let job : JobSettings = s.settings.job in
     record {
-      before = [];
+      checks_before = [];
       reads = Size ∷ Orientation ∷ vertical_reads s.cursor.y;
-      after = [];
+      checks_after = [];
       state = record
           (with_job s (record job { pen = record job.pen { place = place_in (frame_of printer s) s.cursor.x y } })) {
             cursor = record s.cursor { y = Some y };
@@ -129,9 +129,9 @@ leave_at_pen printer s =
     let x = x_on_page (frame_of printer s) s.settings.job.pen.place.x in
     let y = y_on_page (frame_of printer s) s.settings.job.pen.place.y in
     record {
-      before = [];
+      checks_before = [];
       reads = page_reads;
-      after = check (not (is_on_page g x y)) OffPage ∷ [];
+      checks_after = check (not (is_on_page g x y)) OffPage ∷ [];
       state = record s { cursor = record { x = x; y = Some y }; in_frame = false };
       marks = [];
     }

@@ -45,6 +45,7 @@ pub record GoesOnBoth (p q : Printer) (defaults : Settings) (item : Entry) : Typ
   pub same : (s : State) → transition_of q defaults s item ≡ transition_of p defaults s item
   pub bare : (s : State) → HasNoOverlay s → ClosesWithout (transition_of p defaults s item)
 
+-- the item goes alike on any two printers that are alike but for the device
 abbrev pub GoesOnLike : Entry → Type 0
 GoesOnLike item =
     (p q : Printer) (defaults : Settings) → IsLike p q → asks_alike p q item ≡ true → GoesOnBoth p q defaults item

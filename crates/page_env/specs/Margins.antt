@@ -25,9 +25,9 @@ lines_of s n = pos (line_of s * whole_of n)
 -- `&l#E` top margin: so many lines from the upper edge of the logical page; the bottom margin is its default again
 abbrev pub set_top_margin : Printer → State → Amount → TableLine
 set_top_margin printer s n = record {
-  before = check (not (is_whole_from 0 n)) BadValue ∷ [];
+  checks_before = check (not (is_whole_from 0 n)) BadValue ∷ [];
   reads = page_and_line_reads;
-  after = vertical_margin_checks printer s (lines_of s n);
+  checks_after = vertical_margin_checks printer s (lines_of s n);
   state = with_job s (record s.settings.job { top_margin = lines_of s n; bottom_margin = None });
   marks = [];
 }
@@ -37,9 +37,9 @@ abbrev pub set_text_length : Printer → State → Amount → TableLine
 set_text_length printer s n =
     let bottom : ℤ = s.settings.job.top_margin +ℤ lines_of s n in
     record {
-      before = check (not (is_whole_from 1 n)) BadValue ∷ [];
+      checks_before = check (not (is_whole_from 1 n)) BadValue ∷ [];
       reads = page_and_line_reads;
-      after = vertical_margin_checks printer s bottom;
+      checks_after = vertical_margin_checks printer s bottom;
       state = with_job s (record s.settings.job { bottom_margin = Some bottom });
       marks = [];
     }
@@ -74,9 +74,9 @@ abbrev pub set_left_margin : Printer → State → Amount → TableLine
 set_left_margin printer s n =
     let left : ℤ = columns_of printer s (whole_of n) in
     record {
-      before = check (not (is_whole_from 0 n)) BadValue ∷ [];
+      checks_before = check (not (is_whole_from 0 n)) BadValue ∷ [];
       reads = Size ∷ Orientation ∷ column_reads s.settings.job;
-      after = no_column printer s ∷ horizontal_margin_checks printer s left left (right_of printer s);
+      checks_after = no_column printer s ∷ horizontal_margin_checks printer s left left (right_of printer s);
       state = record (with_job s (record s.settings.job { left_margin = left })) {
         cursor = record s.cursor { x = cond (int_lt s.cursor.x left) left s.cursor.x };
       };
@@ -88,9 +88,9 @@ abbrev pub set_right_margin : Printer → State → Amount → TableLine
 set_right_margin printer s n =
     let right : ℤ = columns_of printer s (whole_of n + 1) in
     record {
-      before = check (not (is_whole_from 0 n)) BadValue ∷ [];
+      checks_before = check (not (is_whole_from 0 n)) BadValue ∷ [];
       reads = Size ∷ Orientation ∷ column_reads s.settings.job;
-      after = no_column printer s ∷ horizontal_margin_checks printer s right s.settings.job.left_margin right;
+      checks_after = no_column printer s ∷ horizontal_margin_checks printer s right s.settings.job.left_margin right;
       state = record (with_job s (record s.settings.job { right_margin = Some right })) {
         cursor = record s.cursor { x = cond (int_lt right s.cursor.x) right s.cursor.x };
       };

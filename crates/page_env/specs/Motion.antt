@@ -67,9 +67,10 @@ is_past_bottom printer s y = s.settings.job.skips_perforation && int_lt (bottom_
 -- a feed to a place of the page, which may lie below the logical page only where the perforation is skipped
 abbrev pub feed_down : Printer → State → ℤ → TableLine
 feed_down printer s y = record {
-  before = [];
+  checks_before = [];
   reads = page_and_line_reads;
-  after = check (not s.settings.job.skips_perforation && int_lt (geometry_of printer s).logical_height y) OffPage ∷ [];
+  checks_after = check (not s.settings.job.skips_perforation && int_lt (geometry_of printer s).logical_height
+      y) OffPage ∷ [];
   state = record s { cursor = record s.cursor { y = Some y } };
   marks = [];
 }

@@ -85,8 +85,8 @@ find_unset (c ∷ cs) = is_unset_finding c.finding || find_unset cs
 -- and that a field is unset is found by the reading alone.
 abbrev pub is_in_order : TableLine → Bool
 is_in_order line =
-    not (find_unset line.before) && not (find_unset line.after)
-    && rises (ranks line.before ++ rank_of 12 ∷ ranks line.after)
+    not (find_unset line.checks_before) && not (find_unset line.checks_after)
+    && rises (ranks line.checks_before ++ rank_of 12 ∷ ranks line.checks_after)
 
 -- the fields that are read stand in the order of the panel's
 abbrev pub reads_in_order : TableLine → Bool

@@ -82,9 +82,9 @@ draw printer s to =
     let origin = origin_of printer s in
     let pen : Pen = s.settings.job.pen in
     record {
-      before = check (pen.number == 0) NoPen ∷ [];
+      checks_before = check (pen.number == 0) NoPen ∷ [];
       reads = page_reads;
-      after = line_checks (geometry_of printer s) origin (frame_of printer s) pen.width pen.place to;
+      checks_after = line_checks (geometry_of printer s) origin (frame_of printer s) pen.width pen.place to;
       state = record (with_pen s (record pen { is_down = true; place = to })) { marked = true };
       marks = Drawn (line_between origin (frame_of printer s) pen.width pen.place to) ∷ [];
     }
@@ -130,7 +130,7 @@ pen_target pen to =
 -- the raised pen moves to a place
 abbrev pub carry_pen : State → PenPlace → TableLine
 carry_pen s to = record (moving (with_pen s (record s.settings.job.pen { place = to }))) {
-  after = check (is_too_far to) OutsideFrame ∷ [];
+  checks_after = check (is_too_far to) OutsideFrame ∷ [];
 }
 
 -- a pair of coordinates moves the pen, behind the own step of its command: where it is down it draws

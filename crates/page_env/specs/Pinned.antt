@@ -121,6 +121,7 @@ AreBare settings = (settings.job.overlay ≡ None) × (settings.unset ≡ unwatc
 abbrev pub IsBare : State → Type 0
 IsBare s = (s.settings.job.overlay ≡ None) × (s.settings.unset ≡ unwatched) × (s.items_left ≡ None)
 
+-- the line leaves a bare state bare: no overlay is enabled, and nothing is watched
 abbrev pub KeepsBare : Transition → Type 0
 KeepsBare (Step line) = IsBare line.state
 KeepsBare (Closes line sets_paper change) = IsBare line.state × ((t : State) → IsBare t → IsBare (change t))

@@ -106,9 +106,9 @@ is_rotated s = is_physical s.settings.job.raster.presentation && not (s.settings
 -- `*r#A` start raster graphics: 0 at the left edge of the logical page, 1 at the cursor. A home becomes a number.
 abbrev pub start_raster : State → Amount → TableLine
 start_raster s n = record {
-  before = check (not (is_whole_between 0 1 n)) BadValue ∷ locked s.raster ∷ [];
+  checks_before = check (not (is_whole_between 0 1 n)) BadValue ∷ locked s.raster ∷ [];
   reads = Size ∷ Orientation ∷ vertical_reads s.cursor.y;
-  after = check (is_rotated s) RotatedRaster ∷ [];
+  checks_after = check (is_rotated s) RotatedRaster ∷ [];
   state = record s {
     cursor = record { x = cond (whole_of n == 0) (pos 0) s.cursor.x; y = Some (vertical_place s) };
     raster = Some (record { rows_left = s.settings.job.raster.height });
@@ -150,11 +150,12 @@ past_foot g resolution y rows = check (int_lt g.logical_height (place_behind res
 -- A started raster has a vertical place, so the VMI is not read here.
 abbrev pub skip_rows : Printer → State → Amount → TableLine
 skip_rows printer s n = record {
-  before =
+  checks_before =
       check (not (is_whole_between 0 32_767 n)) BadValue ∷ not_started s.raster
       ∷ check (option_map_or (passes_height (whole_of n)) s.raster false) RasterTooBig ∷ [];
   reads = Size ∷ Orientation ∷ vertical_reads s.cursor.y;
-  after = past_foot (geometry_of printer s) s.settings.job.raster.resolution (vertical_place s) (whole_of n) ∷ [];
+  checks_after = past_foot (geometry_of printer s) s.settings.job.raster.resolution (vertical_place s)
+      (whole_of n) ∷ [];
   state = rows_down s (whole_of n);
   marks = [];
 }
@@ -211,9 +212,9 @@ print_row printer s bytes =
     let black = up_to_black bytes in
     let row = row_from s.settings.job.raster.resolution (x_on_sheet printer s) (y_on_sheet printer s) black in
     record {
-      before = row_checks s.settings.job.raster s.raster black;
+      checks_before = row_checks s.settings.job.raster s.raster black;
       reads = Size ∷ Orientation ∷ vertical_reads s.cursor.y;
-      after = place_checks (geometry_of printer s) (vertical_place s) black row;
+      checks_after = place_checks (geometry_of printer s) (vertical_place s) black row;
       state = record (rows_down s 1) { marked = has_black black || s.marked };
       marks = marks_of black row;
     }

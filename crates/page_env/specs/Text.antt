@@ -43,9 +43,9 @@ text_reads y others = Size ∷ Orientation ∷ vertical_reads y ++ others
 -- a space, which makes no mark: a column
 abbrev pub space : Printer → State → TableLine
 space printer s = record {
-  before = [];
+  checks_before = [];
   reads = text_reads s.cursor.y (column_reads s.settings.job);
-  after = no_column printer s ∷ moves_within printer s;
+  checks_after = no_column printer s ∷ moves_within printer s;
   state = advanced printer s;
   marks = [];
 }
@@ -54,7 +54,7 @@ space printer s = record {
 abbrev pub transparent_space : Printer → State → TableLine
 transparent_space printer s = record (space printer s) {
   reads = text_reads s.cursor.y (font_reads s.settings.job.font);
-  after = no_font printer s ∷ moves_within printer s;
+  checks_after = no_font printer s ∷ moves_within printer s;
 }
 
 -- the box of a character with its reference point at a place of the sheet
@@ -88,9 +88,9 @@ checks_of printer s code face =
 -- a character that prints, where a face answers the request
 abbrev pub character : Printer → State → ℕ → TableLine
 character printer s code = record {
-  before = [];
+  checks_before = [];
   reads = text_reads s.cursor.y (font_reads s.settings.job.font);
-  after = option_map_or (checks_of printer s code) (face_of printer s) (check true NoFont ∷ []);
+  checks_after = option_map_or (checks_of printer s code) (face_of printer s) (check true NoFont ∷ []);
   state = record (advanced printer s) { marked = true };
   marks = option_map_or (λ face. Character (glyph_of printer s code face) ∷ []) (face_of printer s) [];
 }

@@ -10,7 +10,7 @@ use Rattle.device_profile.specs.Printer.{Printer}
 use Rattle.page_env.specs.declared.mark.Bounds.{Bounds}
 use Rattle.page_env.specs.declared.mark.Glyph.{Glyph}
 use Rattle.page_env.specs.declared.page.Page.{Page}
-use Rattle.page_env.specs.declared.text_lines.Look.{Look}
+use Rattle.page_env.specs.declared.text_lines.TextAppearance.{TextAppearance}
 use Rattle.page_env.specs.declared.text_lines.TextLines.{TextLines}
 use Rattle.page_env.specs.declared.text_lines.TextPlace.{TextPlace}
 use Rattle.page_env.specs.Settings.{Settings, settings_at, state_at}
@@ -21,15 +21,15 @@ use Rattle.page_env.specs.Table.{transition_of}
 -- ---- one byte, from a place
 
 -- the left margin, and a line further down
-abbrev pub at_left : Look → TextPlace → TextPlace
+abbrev pub at_left : TextAppearance → TextPlace → TextPlace
 at_left look place = record place { x = look.left }
 
-abbrev pub a_line_down : Look → TextPlace → TextPlace
+abbrev pub a_line_down : TextAppearance → TextPlace → TextPlace
 a_line_down look place = record place { y = place.y +ℤ look.line }
 
 -- Where a byte leads: CR to the left margin, LF a line down, either with the other where line termination has it so,
 -- and what is text a column on.
-abbrev pub behind : Look → ℕ → TextPlace → TextPlace
+abbrev pub behind : TextAppearance → ℕ → TextPlace → TextPlace
 behind look code place =
     cond (code == 13)
     (cond look.termination.feeds_at_return (a_line_down look (at_left look place)) (at_left look place))
@@ -41,14 +41,14 @@ abbrev pub is_blank : ℕ → Bool
 is_blank code = (code == 13) || ((code == 10) || (code == 32))
 
 -- the box of a character with its reference point at the place
-abbrev pub box_at : Look → TextPlace → Bounds
+abbrev pub box_at : TextAppearance → TextPlace → Bounds
 box_at look place =
     let x = look.origin.x +ℤ place.x in
     let y = look.origin.y +ℤ place.y in
     record { left = x; top = y -ℤ look.ascent; right = x +ℤ look.advance; bottom = y +ℤ look.descent }
 
 -- the character of a byte, if it has one
-abbrev pub glyph_at : Look → TextPlace → ℕ → Option Glyph
+abbrev pub glyph_at : TextAppearance → TextPlace → ℕ → Option Glyph
 glyph_at look place code =
     cond (is_blank code) None
     (Some (record { code = code; request = look.request; y = look.origin.y +ℤ place.y; bounds = box_at look place }))
@@ -58,12 +58,13 @@ abbrev pub page_at : TextPlace → Page → Page
 page_at place page = record page { cursor = record { x = place.x; y = Some place.y } }
 
 -- the page behind a byte: the cursor is where it leads, and what is not blank makes a mark
-abbrev pub page_behind : Look → TextPlace → ℕ → Page → Page
+abbrev pub page_behind : TextAppearance → TextPlace → ℕ → Page → Page
 page_behind look place code page =
     record (page_at (behind look code place) page) { marked = not (is_blank code) || page.marked }
 
 -- its item goes, whatever the panel, with the character that looks so
-pub record GoesAt (printer : Printer) (look : Look) (place : TextPlace) (page : Page) (code : ℕ) : Type 0 where
+pub record GoesAt (printer : Printer) (look : TextAppearance) (place : TextPlace) (page : Page)
+    (code : ℕ) : Type 0 where
   pub byte : IsOfLines code
   pub no_raster : page.raster ≡ None
   pub goes : (panel : Panel) (defaults : Settings) →
@@ -73,18 +74,18 @@ pub record GoesAt (printer : Printer) (look : Look) (place : TextPlace) (page : 
 -- ---- bytes one after another
 
 -- each of the bytes goes
-abbrev pub AllGo : Printer → Look → TextPlace → Page → List ℕ → Type 0
+abbrev pub AllGo : Printer → TextAppearance → TextPlace → Page → List ℕ → Type 0
 AllGo printer look place page [] = Unit {0}
 AllGo printer look place page (code ∷ codes) =
     GoesAt printer look place page code
     × AllGo printer look (behind look code place) (page_behind look place code page) codes
 
 -- the place behind all of them, and the page
-abbrev pub place_behind : Look → List ℕ → TextPlace → TextPlace
+abbrev pub place_behind : TextAppearance → List ℕ → TextPlace → TextPlace
 place_behind look [] place = place
 place_behind look (code ∷ codes) place = place_behind look codes (behind look code place)
 
-abbrev pub page_behind_all : Look → TextPlace → List ℕ → Page → Page
+abbrev pub page_behind_all : TextAppearance → TextPlace → List ℕ → Page → Page
 page_behind_all look place [] page = page
 page_behind_all look place (code ∷ codes) page =
     page_behind_all look (behind look code place) codes (page_behind look place code page)
@@ -99,7 +100,7 @@ abbrev pub StandsAt : Page → TextPlace → Type 0
 StandsAt page place = page.cursor ≡ record { x = place.x; y = Some place.y }
 
 -- the bytes go from where the cursor stands, and lead so far, with so many characters
-pub record GoAs (printer : Printer) (page : Page) (look : Look) (from : TextPlace) (bytes : List ℕ)
+pub record GoAs (printer : Printer) (page : Page) (look : TextAppearance) (from : TextPlace) (bytes : List ℕ)
     (lines : TextLines) : Type 0 where
   pub stands : StandsAt page from
   pub go : AllGo printer look from page bytes

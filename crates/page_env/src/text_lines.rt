@@ -38,7 +38,7 @@ use tick_length::{Length, Unit};
 
 /// How text looks on a page, and where its bytes lead.
 #[derive(Clone, Copy, PartialEq, Eq)]
-pub struct Look {
+pub struct TextAppearance {
     pub request: FontRequest,
     /// Where the logical page begins on the sheet.
     pub origin: Origin,
@@ -79,7 +79,7 @@ pub struct TextPlace {
 /// What lines of text take from the settings in force.
 #[derive(Drop)]
 pub struct TextMeasure<'p, A: Allocator> {
-    look: Look,
+    look: TextAppearance,
     face: &'p FontRow<A>,
     bounds: TextBounds,
 }
@@ -216,7 +216,7 @@ pub fn text_measure<'p, A: Allocator>(
     };
     let face = profile.font(&request)?;
     let ends = line_ends(page);
-    let look = Look {
+    let look = TextAppearance {
         request,
         origin,
         advance: face.advance(),
@@ -236,7 +236,7 @@ pub fn text_measure<'p, A: Allocator>(
 }
 
 /// Whether characters look the same, and lead to the same places.
-fn is_same_look(a: &Look, b: &Look) -> bool
+fn is_same_look(a: &TextAppearance, b: &TextAppearance) -> bool
     ensures { IsTrue result ↔ (a.now ≡ b.now) }
 {
     *a == *b
@@ -458,7 +458,7 @@ fn before(place: i64, by: Length) -> i64
 
 /// Whether a character with its reference point at a place lies within an area.
 #[inline(always)]
-fn fits_in(look: &Look, area: &Bounds, place: TextPlace) -> bool
+fn fits_in(look: &TextAppearance, area: &Bounds, place: TextPlace) -> bool
     ensures { result ≡ lies_in area.now (box_at look.now place) }
 {
     let at = on_sheet(look.origin, place.x, place.y);
@@ -664,7 +664,7 @@ impl<A: Allocator> TextMeasure<'_, A> {
 
 /// Moves the cursor over bytes that go.
 pub fn pass_lines(page: &mut Page, lines: &TextLines)
-    ensures { (printer : Printer) (look : Look) (from : TextPlace) (bytes : List ℕ) →
+    ensures { (printer : Printer) (look : TextAppearance) (from : TextPlace) (bytes : List ℕ) →
         GoAs printer page.old look from bytes lines.now →
         page.new ≡ page_behind_all look from bytes page.old }
 {

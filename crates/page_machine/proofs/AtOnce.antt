@@ -20,8 +20,8 @@ use Rattle.page_env.specs.Settings.{Settings, State, settings_at, state_at}
 use Rattle.page_env.specs.Table.{transition_of, coordinates_of}
 use Rattle.page_machine.specs.declared.stop.Stop.{Stop}
 use Rattle.page_machine.specs.declared.stop.Stop.TheVariants as stops
-use Rattle.page_machine.specs.declared.steps.Halt.{Halt}
-use Rattle.page_machine.specs.declared.steps.Halt.TheVariants.{Found, Refused}
+use Rattle.page_machine.specs.declared.steps.Interruption.{Interruption}
+use Rattle.page_machine.specs.declared.steps.Interruption.TheVariants.{Found, Refused}
 use Rattle.page_machine.specs.Defining.{LeavesMacros, is_defining, macros_after}
 use Rattle.page_machine.specs.Event.{Event}
 use Rattle.page_machine.specs.Follows.{Follows}
@@ -109,7 +109,7 @@ module _ (item : Entry) (old begun : Page) (begins : (panel : Panel) → begun_b
       ∙ ap (λ p. begun_run printer conditions same (state_at panel p)) (sym page)
 
   module _ {S : Type 0} (takes refuses : S → Event → S → Type 0) (F : Type 0) (sink sink' : S) (page : Page) (printer : Printer)
-      (result : Result Unit (Halt F)) where
+      (result : Result Unit (Interruption F)) where
     pub Follows-begun : (same : Entry) (new : Page) → item ≡ same → new ≡ begun →
         ((conditions : Panel → Conditions) →
         Follows takes refuses (λ panel. begun_run printer (conditions panel) same (state_at panel new)) sink sink' page result) →
@@ -148,7 +148,7 @@ module _ (item : Entry) (old begun : Page) (begins : (panel : Panel) → begun_b
   begun_stays new still = λ panel. (ap (settings_at panel) still.env ∙ same_settings panel, still.cursor ∙ same_cursor)
 
   -- a step from where the item has begun leaves what it leaves
-  pub StaysFound-begun : {F : Type 0} (mid new : Page) → mid ≡ begun → (ran : Result Unit (Halt F)) → StillFound mid new ran →
+  pub StaysFound-begun : {F : Type 0} (mid new : Page) → mid ≡ begun → (ran : Result Unit (Interruption F)) → StillFound mid new ran →
       StaysFound old new ran
   StaysFound-begun mid new is (Ok done) still = tt
   StaysFound-begun mid new is (Err (Found finding)) still = begun_stays new (subst (λ (p : Page). StandsStill p new) is still)
@@ -162,11 +162,11 @@ module _ (item : Entry) (old begun : Page) (begins : (panel : Panel) → begun_b
   pub item-has_begun : (printer : Printer) (defaults : Env) (macros : Store) → is_defining macros ≡ false →
       Alike (item_of (fields_of printer defaults begun macros) item) (item_of (fields_of printer defaults old macros) item)
   item-has_begun printer defaults macros none =
-      let before : MachineState = fields_of printer defaults old macros in
+      let machine_before : MachineState = fields_of printer defaults old macros in
       let behind : MachineState = fields_of printer defaults begun macros in (
         λ panel.
-            (item-is_carried item before none).0 panel
-            ∙ ap (begun_run printer (in_job (context_of before panel)) item) (begins panel ∙ sym (begins_again panel))
+            (item-is_carried item machine_before none).0 panel
+            ∙ ap (begun_run printer (in_job (context_of machine_before panel)) item) (begins panel ∙ sym (begins_again panel))
             ∙ sym ((item-is_carried item behind none).0 panel),
         ap (λ id. macros_after id item macros) (sym same_id),
         refl,
@@ -203,9 +203,9 @@ module _ {S : Type 0} (takes refuses : S → Event → S → Type 0) (F : Type 0
       mid = h.2.mid;
       event = h.2.event;
       rest = h.2.rest;
-      before =
+      took =
           TakesUpTo-is takes refuses sink h.2.mid (item_of from item).run (item_of old item).run
-          (λ panel. after (h.2.event ∷ []) no_peaks (h.2.rest panel)) e.0 h.2.before;
+          (λ panel. after (h.2.event ∷ []) no_peaks (h.2.rest panel)) e.0 h.2.took;
       refused = h.2.refused;
     },
   )

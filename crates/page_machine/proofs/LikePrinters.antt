@@ -48,8 +48,8 @@ unset_without None e h = h
 
 judged_without : (settings : Settings) (line : TableLine) (e : Effect) → EndsWithout e → EndsWithout (judged settings line e)
 judged_without settings line e h =
-    fails_without (first_finding line.before) _
-    (unset_without (first_unset settings line.reads) _ (fails_without (first_finding line.after) e h))
+    fails_without (first_finding line.checks_before) _
+    (unset_without (first_unset settings line.reads) _ (fails_without (first_finding line.checks_after) e h))
 
 effect_without : (settings : Settings) (t : Transition) → ClosesWithout t → EndsWithout (effect_of settings t)
 effect_without settings (Step line) h = judged_without settings line (Goes line.state line.marks) tt

@@ -106,7 +106,8 @@ module _ (printer : Printer) (defaults : Settings) (fixed : Bool) (is_fixed : fi
 
   judged_keeps : (s : State) (line : TableLine) (e : Effect) → KeepsPaper s (effect_run here e) →
       KeepsPaper s (effect_run here (judged s.settings line e))
-  judged_keeps s line e h = parts_keep s (first_finding line.before) (first_finding line.after) (first_unset s.settings line.reads) e h
+  judged_keeps s line e h = parts_keep s (first_finding line.checks_before) (first_finding line.checks_after)
+      (first_unset s.settings line.reads) e h
 
   read_keeps : (s : State) (unset : Option Field) (e : Effect) → KeepsPaper s (effect_run here e) →
       KeepsPaper s (effect_run here (effect.unset_or unset e))

@@ -92,10 +92,11 @@ three true b c e = absurd cc
 three false true c e = absurd cc
 three false false c e = (refl, refl)
 
-pub line_is_set : (line : TableLine) → is_in_order line ≡ true → FindsSet (first_finding line.before) × FindsSet (first_finding line.after)
+pub line_is_set : (line : TableLine) → is_in_order line ≡ true → FindsSet (first_finding line.checks_before) ×
+    FindsSet (first_finding line.checks_after)
 line_is_set line e =
-    let none = three (find_unset line.before) (find_unset line.after) _ e in
-    (checks_are_set line.before none.0, checks_are_set line.after none.1)
+    let none = three (find_unset line.checks_before) (find_unset line.checks_after) _ e in
+    (checks_are_set line.checks_before none.0, checks_are_set line.checks_after none.1)
 
 -- the checks of a transition stand in order
 abbrev pub IsOrdered : Transition → Type 0
@@ -222,13 +223,14 @@ module _ (printer : Printer) (from : Settings) where
         let set = line_is_set line ordered in
         subst
         (λ (u : Option Field). Alike printer from run
-        (effect_run there (fails_or (first_finding line'.before) (effect.unset_or u (fails_or (first_finding line'.after) e')))))
+        (effect_run there (fails_or (first_finding line'.checks_before)
+        (effect.unset_or u (fails_or (first_finding line'.checks_after) e')))))
         (sym goes.1)
         (subst
         (λ (l : TableLine).
-        Alike printer from run (effect_run there (fails_or (first_finding l.before) (fails_or (first_finding l.after) e'))))
+        Alike printer from run (effect_run there (fails_or (first_finding l.checks_before) (fails_or (first_finding l.checks_after) e'))))
         (sym goes.0)
-        (parts_alike (first_finding line.before) (first_finding line.after) (first_unset s.settings line.reads) e e'
+        (parts_alike (first_finding line.checks_before) (first_finding line.checks_after) (first_unset s.settings line.reads) e e'
         (nothing_unset s line.reads o) set.0 set.1 p))
 
     behind_alike : (unset : Option Field) (e : Effect) (r' : Run) → unset ≡ None → Alike printer from (effect_run here e) r' →

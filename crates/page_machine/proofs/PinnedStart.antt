@@ -173,14 +173,14 @@ module _ (printer : Printer) (conditions : Conditions) where
   pub copies_leads : (n : ℕ) (s : State) → is_whole_between 1 32_767 (whole n) ≡ true →
       LeadsTo (item_run printer conditions (Parameterized commands.Copies (whole n)) s) (set_copies (begun s) (whole n)).state
   copies_leads n s good =
-      goes_on (first_finding (set_copies (begun s) (whole n)).before) (set_copies (begun s) (whole n)).state
+      goes_on (first_finding (set_copies (begun s) (whole n)).checks_before) (set_copies (begun s) (whole n)).state
       (one_passes (is_whole_between 1 32_767 (whole n)) good)
 
   pub line_termination_leads : (n : ℕ) (s : State) → is_whole_between 0 3 (whole n) ≡ true →
       LeadsTo (item_run printer conditions (Parameterized commands.LineTermination (whole n)) s)
       (set_line_termination (begun s) (whole n)).state
   line_termination_leads n s good =
-      goes_on (first_finding (set_line_termination (begun s) (whole n)).before) (set_line_termination (begun s) (whole n)).state
+      goes_on (first_finding (set_line_termination (begun s) (whole n)).checks_before) (set_line_termination (begun s) (whole n)).state
       (one_passes (is_whole_between 0 3 (whole n)) good)
 
 -- ---- the prologue

@@ -4,7 +4,7 @@ use Rattle.std.proofs.Common.{◌∙◌, arith}
 use Rattle.device_profile.specs.declared.panel.Panel.{Panel}
 use Rattle.device_profile.specs.Printer.{Printer}
 use Rattle.page_env.specs.declared.page.Page.{Page}
-use Rattle.page_machine.specs.declared.steps.Halt.{Halt}
+use Rattle.page_machine.specs.declared.steps.Interruption.{Interruption}
 use Rattle.page_machine.specs.Event.{Event}
 use Rattle.page_machine.specs.Run.{Run, followed_by, Conditions, byte_run, printing, move_run, drawing}
 use Rattle.page_machine.specs.Follows.{Follows}
@@ -38,7 +38,7 @@ printing-split printer conditions r (x ∷ xs) (suc i) d h =
 
 -- what stopped a run stops it with the bytes that would follow
 pub Follows-cut : {S : Type 0} (takes refuses : S → Event → S → Type 0) (F : Type 0) (old new : S) (page : Page) (printer : Printer)
-    (conditions : Panel → Conditions) (run : Panel → Run) (halt : Halt F) (codes : List ℕ) →
+    (conditions : Panel → Conditions) (run : Panel → Run) (halt : Interruption F) (codes : List ℕ) →
     Follows takes refuses run old new page (Err halt) →
     Follows takes refuses (λ panel. printing printer (conditions panel) (run panel) codes) old new page (Err halt)
 Follows-cut takes refuses F old new page printer conditions run halt [] h = h
@@ -49,7 +49,7 @@ Follows-cut takes refuses F old new page printer conditions run halt (code ∷ c
 
 -- and with the move of the pen that would follow
 pub Follows-undrawn : {S : Type 0} (takes refuses : S → Event → S → Type 0) (F : Type 0) (old new : S) (page : Page) (printer : Printer)
-    (conditions : Panel → Conditions) (run : Panel → Run) (halt : Halt F) (to : Option (ℤ × ℤ)) →
+    (conditions : Panel → Conditions) (run : Panel → Run) (halt : Interruption F) (to : Option (ℤ × ℤ)) →
     Follows takes refuses run old new page (Err halt) →
     Follows takes refuses (λ panel. drawing printer (conditions panel) (run panel) to) old new page (Err halt)
 Follows-undrawn takes refuses F old new page printer conditions run halt None h = h

@@ -137,26 +137,26 @@ module _ (watched : Flags) where
     -- a line, whose plain reads are the same
     judged_comes : (u left : Untouched) (R : Field → Type 0) (s : State) (line line' : TableLine) (e : Effect) →
         IsSound printer s line line' → IsReadAlike s line.reads line'.reads → Says u s → ((f : Field) → LineReads f u line' → R f) →
-        (first_finding line'.before ≡ None → first_finding line'.after ≡ None → Comes left R (effect_run here e).ending) →
+        (first_finding line'.checks_before ≡ None → first_finding line'.checks_after ≡ None → Comes left R (effect_run here e).ending) →
         Comes left R (effect_run here (judged s.settings line e)).ending
     judged_comes u left R s line line' e sound alike says reads goes_on =
-        by (first_finding line.before) refl (first_unset s.settings line.reads) refl (first_finding line.after) refl
+        by (first_finding line.checks_before) refl (first_unset s.settings line.reads) refl (first_finding line.checks_after) refl
       where
-        set : FindsSet (first_finding line.before) × FindsSet (first_finding line.after)
+        set : FindsSet (first_finding line.checks_before) × FindsSet (first_finding line.checks_after)
         set = line_is_set line sound.ordered
 
-        by : (before : Option Finding) → first_finding line.before ≡ before → (unset : Option Field) →
-            first_unset s.settings line.reads ≡ unset → (behind : Option Finding) → first_finding line.after ≡ behind →
+        by : (before : Option Finding) → first_finding line.checks_before ≡ before → (unset : Option Field) →
+            first_unset s.settings line.reads ≡ unset → (behind : Option Finding) → first_finding line.checks_after ≡ behind →
             Comes left R (effect_run here (fails_or before (effect.unset_or unset (fails_or behind e)))).ending
         by (Some finding) b unset n behind a = set_comes left R finding (set.0 finding b)
         by None b (Some field) n behind a = λ f is.
             let same : field ≡ f = cc in
             let there = read_there u s line.reads line'.reads f alike says (n ∙ ap Some same) in
-            (reads f (ap (λ (l : TableLine). first_finding l.before) sound.same ∙ b, there.0), there.1)
+            (reads f (ap (λ (l : TableLine). first_finding l.checks_before) sound.same ∙ b, there.0), there.1)
         by None b None n (Some finding) a = set_comes left R finding (set.1 finding a)
         by None b None n None a =
-            goes_on (ap (λ (l : TableLine). first_finding l.before) sound.same ∙ b)
-            (ap (λ (l : TableLine). first_finding l.after) sound.same ∙ a)
+            goes_on (ap (λ (l : TableLine). first_finding l.checks_before) sound.same ∙ b)
+            (ap (λ (l : TableLine). first_finding l.checks_after) sound.same ∙ a)
 
     abbrev Reads : Untouched → State → Transition → Field → Type 0
     Reads u s m f = TransitionReads fixed (closing f u) (controlling f u) f u s m
@@ -180,7 +180,7 @@ module _ (watched : Flags) where
         (λ f h. inl h) (λ b a. leaves.1)
     transition_comes u left s (Closes line sets change) (Closes line' sets' change') sound leaves says =
         let R : Field → Type 0 = Reads u (plain_state s) (Closes line' sets' change') in
-        let comes_to : first_finding line'.before ≡ None → first_finding line'.after ≡ None →
+        let comes_to : first_finding line'.checks_before ≡ None → first_finding line'.checks_after ≡ None →
         effect_of (plain_settings s.settings) (Closes line' sets' change') ≡ GoesThenCloses (plain_state line.state) sets change' =
         λ b a. judged_plain s.settings line' (GoesThenCloses line'.state sets' change') b a
         ∙ ap (λ (l : TableLine). GoesThenCloses l.state sets' change') sound.0.same
@@ -190,7 +190,7 @@ module _ (watched : Flags) where
         (λ f fix mark c. inr (subst (BehindReads fixed (closing f u) (controlling f u)) (sym (comes_to b a)) (fix, mark, c))) leaves.1)
     transition_comes u left s (Ends line) (Ends line') sound leaves says =
         let R : Field → Type 0 = Reads u (plain_state s) (Ends line') in
-        let comes_to : first_finding line'.before ≡ None → first_finding line'.after ≡ None →
+        let comes_to : first_finding line'.checks_before ≡ None → first_finding line'.checks_after ≡ None →
         effect_of (plain_settings s.settings) (Ends line') ≡ GoesThenEnds (plain_state line.state) =
         λ b a. judged_plain s.settings line' (GoesThenEnds line'.state) b a ∙ ap (λ (l : TableLine). GoesThenEnds l.state) sound.same in
         judged_comes u left R s line line' (GoesThenEnds line.state) sound leaves.0.0 says (λ f h. inl h)
@@ -496,7 +496,7 @@ module _ (watched : Flags) where
         macro_comes inner inner' inner_leaves InnerReads inner_plainly inner_comes nesting item u s says = by (first_finding checks) refl
           where
             checks : List Check
-            checks = (spend_item s).before
+            checks = (spend_item s).checks_before
 
             begun : State
             begun = (spend_item s).state

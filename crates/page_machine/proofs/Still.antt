@@ -17,8 +17,8 @@ use Rattle.page_env.specs.Mark.{Shape}
 use Rattle.page_env.specs.Settings.{settings_at, state_at}
 use Rattle.page_machine.specs.declared.stop.Stop.{Stop}
 use Rattle.page_machine.specs.declared.stop.Stop.TheVariants as stops
-use Rattle.page_machine.specs.declared.steps.Halt.{Halt}
-use Rattle.page_machine.specs.declared.steps.Halt.TheVariants.{Found, Refused}
+use Rattle.page_machine.specs.declared.steps.Interruption.{Interruption}
+use Rattle.page_machine.specs.declared.steps.Interruption.TheVariants.{Found, Refused}
 use Rattle.page_machine.specs.Machine.{Carrying, StaysAtStop, stop_of}
 use Rattle.page_machine.specs.MachineState.{MachineState}
 use Rattle.page_machine.specs.Still.{FoundBy, NeverFinds, StaysFound, StillFound, is_one_step}
@@ -30,7 +30,8 @@ any_panel = record { size = 0; orientation = 0; vmi = 0; font = 0; copies = 0; s
 -- ---- a step
 
 -- what hands over what a step marked has its finding
-pub still_handed : {T F : Type 0} (old new : Page) (marked : Result T Finding) (result : Result Unit (Halt F)) → FoundBy marked result →
+pub still_handed : {T F : Type 0} (old new : Page) (marked : Result T Finding) (result : Result Unit (Interruption F)) →
+    FoundBy marked result →
     LeavesFound old new marked → StillFound old new result
 still_handed old new marked (Ok done) by leaves = tt
 still_handed old new marked (Err (Found finding)) by leaves = subst (λ r. LeavesFound old new r) by leaves
@@ -47,13 +48,15 @@ still_marked shapes shapes' old new (Ok mark) (Err finding) same leaves =
 still_marked shapes shapes' old new (Err found) (Err finding) same leaves = leaves
 
 -- a hand over that finds nothing has the finding of what was marked
-pub none_found : {T F : Type 0} (marked : Result T Finding) (result : Result Unit (Halt F)) → NeverFinds result → FoundBy marked result
+pub none_found : {T F : Type 0} (marked : Result T Finding) (result : Result Unit (Interruption F)) → NeverFinds result →
+    FoundBy marked result
 none_found marked (Ok done) never = tt
 none_found marked (Err (Found finding)) never = absurd never
 none_found marked (Err (Refused fault)) never = tt
 
 -- an answer that a `?` hands on
-pub still_handed_on : {F : Type 0} (old new : Page) (halt : Halt F) (result : Result Unit (Halt F)) → IsErrAnd result (λ h. h ≡ halt) →
+pub still_handed_on : {F : Type 0} (old new : Page) (halt : Interruption F) (result : Result Unit (Interruption F)) →
+    IsErrAnd result (λ h. h ≡ halt) →
     StillFound old new (Err halt) → StillFound old new result
 still_handed_on old new halt (Ok done) is still = absurd is
 still_handed_on old new halt (Err other) is still = subst (λ h. StillFound old new (Err h)) (sym is) still
@@ -80,7 +83,7 @@ page_steps (pages.Command Orientation n) = refl
 page_steps (pages.Command MacroControl n) = refl
 
 module _ {F : Type 0} (what : Carrying) (old new : MachineState) (printer : new.printer ≡ old.printer) where
-  pub halt_stays : (halt : Halt F) → (what.one_step ≡ true → StaysFound old.page new.page (Err halt)) →
+  pub halt_stays : (halt : Interruption F) → (what.one_step ≡ true → StaysFound old.page new.page (Err halt)) →
       StaysAtStop what old new (stop_of halt)
   halt_stays (Found finding) stays = record { printer = printer; stays = stays }
   halt_stays (Refused fault) stays = tt

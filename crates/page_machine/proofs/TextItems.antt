@@ -4,7 +4,7 @@ use Rattle.device_profile.specs.declared.panel.Panel.{Panel}
 use Rattle.device_profile.specs.Printer.{Printer}
 use Rattle.pcl_items.specs.Items.{CarriageReturn, LineFeed, Text}
 use Rattle.pcl_items.specs.Lines.{line_item}
-use Rattle.page_env.specs.declared.text_lines.Look.{Look}
+use Rattle.page_env.specs.declared.text_lines.TextAppearance.{TextAppearance}
 use Rattle.page_env.specs.declared.text_lines.TextPlace.{TextPlace}
 use Rattle.page_env.specs.Effect.{effect_of}
 use Rattle.page_env.specs.Settings.{State, state_at}
@@ -57,7 +57,7 @@ module _ (machine : MachineState) (code : ℕ) (none : machine.macros.definition
       by false true = ap (λ d. cond (is_some d) (defined_after LineFeed (defining_of LineFeed) machine.macros) machine.macros) none
       by false false = ap (λ d. cond (is_some d) (defined_after (Text code) (defining_of (Text code)) machine.macros) machine.macros) none
 
-  byte_prints : (look : Look) (place : TextPlace) → GoesAt machine.printer look place machine.page code → (panel : Panel) →
+  byte_prints : (look : TextAppearance) (place : TextPlace) → GoesAt machine.printer look place machine.page code → (panel : Panel) →
       let s = state_at panel (page_behind look place code machine.page) in
       (item_of machine (line_item code)).run panel ≡ after (glyph_events look place code) (peaks_of s) (just [] (Done s))
   byte_prints look place h panel =
@@ -73,7 +73,8 @@ module _ (machine : MachineState) (code : ℕ) (none : machine.macros.definition
       ∙ ap (effect_run conditions) (h.goes panel conditions.defaults)
       ∙ step_ends (glyph_events look place code) (state_at panel (page_behind look place code machine.page))
 
-pub prints_lines : (codes : List ℕ) (look : Look) (place : TextPlace) (machine : MachineState) → machine.macros.definition ≡ None →
+pub prints_lines : (codes : List ℕ) (look : TextAppearance) (place : TextPlace) (machine : MachineState) →
+    machine.macros.definition ≡ None →
     AllGo machine.printer look place machine.page codes →
     PrintsLines look place codes machine (record machine { page = page_behind_all look place codes machine.page })
 prints_lines [] look place machine none h = refl

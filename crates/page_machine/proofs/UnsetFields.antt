@@ -83,12 +83,13 @@ not_set true h = absurd (h refl)
 not_set false h = refl
 
 -- a line's plain checks find nothing, and nothing is unset: what it comes to
-pub judged_plain : (settings : Settings) (line : TableLine) (e : Effect) → first_finding line.before ≡ None →
-    first_finding line.after ≡ None → judged (plain_settings settings) line e ≡ e
+pub judged_plain : (settings : Settings) (line : TableLine) (e : Effect) → first_finding line.checks_before ≡ None →
+    first_finding line.checks_after ≡ None → judged (plain_settings settings) line e ≡ e
 judged_plain settings line e before behind =
     ap
-    (λ o. fails_or o (effect.unset_or (first_unset (plain_settings settings) line.reads) (fails_or (first_finding line.after) e))) before
-    ∙ ap (λ o. effect.unset_or o (fails_or (first_finding line.after) e)) (first_unset-plain settings line.reads)
+    (λ o. fails_or o (effect.unset_or (first_unset (plain_settings settings) line.reads)
+    (fails_or (first_finding line.checks_after) e))) before
+    ∙ ap (λ o. effect.unset_or o (fails_or (first_finding line.checks_after) e)) (first_unset-plain settings line.reads)
     ∙ ap (λ o. fails_or o e) behind
 
 pub control_checks_set : (known in_macro : Bool) (control : Option Control) → find_unset (control_checks known in_macro control) ≡ false

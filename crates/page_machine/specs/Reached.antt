@@ -102,7 +102,7 @@ ReadsUntouched field u reads = Contains reads field × (is_untouched u field ≡
 
 -- a line comes to its reads, and reads it there
 abbrev pub LineReads : Field → Untouched → TableLine → Type 0
-LineReads field u line = (first_finding line.before ≡ None) × ReadsUntouched field u line.reads
+LineReads field u line = (first_finding line.checks_before ≡ None) × ReadsUntouched field u line.reads
 
 -- an item's own step reads it, or it is read before that step is known
 abbrev pub StepReads : Field → Untouched → Transition → Type 0
@@ -186,7 +186,7 @@ NestedReads field context conditions closing inner nesting u item s =
 
 -- an item of a body begins, and reads it then
 abbrev pub MacroItemReads : (Untouched → Entry → State → Type 0) → Untouched → Entry → State → Type 0
-MacroItemReads reads u item s = (first_finding (spend_item s).before ≡ None) × reads u item (spend_item s).state
+MacroItemReads reads u item s = (first_finding (spend_item s).checks_before ≡ None) × reads u item (spend_item s).state
 
 -- a body at a level, where so many levels are left, its own among them
 abbrev pub BodyReads : Field → MacroContext → (State → Run) → (Untouched → State → Type 0) → (left level : ℕ) →
@@ -232,46 +232,50 @@ JobEndReads field context u s =
 
 -- so many items come to their end without a finding, and the next one, at this place, reads it, or where
 -- none is left what comes finally
-abbrev pub ItemsRead : Field → Printer → Settings → (ℕ → Store → State → Untouched → Type 0) → (before place : ℕ) →
+abbrev pub ItemsRead : Field → Printer → Settings → (ℕ → Store → State → Untouched → Type 0) →
+    (count_before place : ℕ) →
     List Placed → Store → State → Untouched → Type 0
-ItemsRead field printer defaults finally before place [] macros s u = finally before macros s u
+ItemsRead field printer defaults finally count_before place [] macros s u = finally count_before macros s u
 ItemsRead field printer defaults finally zero place (x ∷ items) macros s u =
     (x.place ≡ place) × JobItemReads field (with_macros printer defaults macros) u x.item s
-ItemsRead field printer defaults finally (suc before) place (x ∷ items) macros s u =
+ItemsRead field printer defaults finally (suc count_before) place (x ∷ items) macros s u =
     (t : State) × ((job_item_run (with_macros printer defaults macros) x.item s).ending ≡ Done t)
-    × ItemsRead field printer defaults finally before place items (macros_after s.settings.job.macro_id x.item macros) t
+    × ItemsRead field printer defaults finally count_before place items
+    (macros_after s.settings.job.macro_id x.item macros) t
     (job_item_leaves (with_macros printer defaults macros) x.item s u)
 
 -- the end reads it, which comes at this place
-abbrev pub EndReads : Field → Printer → Settings → (end place before : ℕ) → Store → State → Untouched → Type 0
+abbrev pub EndReads : Field → Printer → Settings → (end place count_before : ℕ) → Store → State → Untouched → Type 0
 EndReads field printer defaults end place zero macros s u =
     (end ≡ place) × JobEndReads field (with_macros printer defaults macros) u s
-EndReads field printer defaults end place (suc before) macros s u = ⊥
+EndReads field printer defaults end place (suc count_before) macros s u = ⊥
 
-abbrev pub ReadingReads : Field → Printer → Settings → (before place : ℕ) → Reading → Store → State → Untouched → Type 0
-ReadingReads field printer defaults before place (Whole items end) macros s u =
-    ItemsRead field printer defaults (EndReads field printer defaults end place) before place items macros s u
-ReadingReads field printer defaults before place (Stopped items end cause) macros s u =
-    ItemsRead field printer defaults (λ n m t v. ⊥) before place items macros s u
+abbrev pub ReadingReads : Field → Printer → Settings → (count_before place : ℕ) → Reading → Store → State →
+    Untouched → Type 0
+ReadingReads field printer defaults count_before place (Whole items end) macros s u =
+    ItemsRead field printer defaults (EndReads field printer defaults end place) count_before place items macros s u
+ReadingReads field printer defaults count_before place (Stopped items end cause) macros s u =
+    ItemsRead field printer defaults (λ n m t v. ⊥) count_before place items macros s u
 
 -- The plain run from a panel finds nothing in so many items, and in the next one, at this place, it comes without a
 -- finding to a step that reads a field which no item has set.
-abbrev pub ComesToRead : Printer → Panel → Reading → (before place : ℕ) → Field → Type 0
-ComesToRead printer panel reading before place field =
+abbrev pub ComesToRead : Printer → Panel → Reading → (count_before place : ℕ) → Field → Type 0
+ComesToRead printer panel reading count_before place field =
     let defaults : Settings = user_defaults unwatched panel in
-    ReadingReads field printer defaults before place reading (no_macros printer.memory)
+    ReadingReads field printer defaults count_before place reading (no_macros printer.memory)
     (start_state printer.most_items defaults) all_untouched
 
 -- behind so many items that find nothing, one at this place has this finding
 abbrev pub FindsBehind : ℕ → ℕ → Finding → List ItemRun → Type 0
-FindsBehind before place finding [] = ⊥
+FindsBehind count_before place finding [] = ⊥
 FindsBehind zero place finding (item ∷ items) = (item.finding ≡ Some finding) × (item.place ≡ place)
-FindsBehind (suc before) place finding (item ∷ items) = (item.finding ≡ None) × FindsBehind before place finding items
+FindsBehind (suc count_before) place finding (item ∷ items) = (item.finding ≡ None) ×
+    FindsBehind count_before place finding items
 
 -- A field that is found unset is watched, and there the plain run comes to a step that reads it, and no
 -- item has set it.
 abbrev pub UnsetIsRead : Printer → Flags → Panel → Reading → Type 0
 UnsetIsRead printer flags panel reading =
-    (before place : ℕ) (field : Field) →
-    FindsBehind before place (Unset field) (run_from printer flags panel reading).items →
-    (is_flagged flags field ≡ true) × ComesToRead printer panel reading before place field
+    (count_before place : ℕ) (field : Field) →
+    FindsBehind count_before place (Unset field) (run_from printer flags panel reading).items →
+    (is_flagged flags field ≡ true) × ComesToRead printer panel reading count_before place field

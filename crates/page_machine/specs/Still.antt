@@ -11,8 +11,8 @@ use Rattle.page_env.specs.declared.page.Page.{Page}
 use Rattle.page_env.specs.Answers.{StandsStill}
 use Rattle.page_env.specs.Settings.{settings_at}
 use Rattle.page_machine.specs.MachineState.{MachineState}
-use Rattle.page_machine.specs.declared.steps.Halt.{Halt}
-use Rattle.page_machine.specs.declared.steps.Halt.TheVariants.{Found, Refused}
+use Rattle.page_machine.specs.declared.steps.Interruption.{Interruption}
+use Rattle.page_machine.specs.declared.steps.Interruption.TheVariants.{Found, Refused}
 
 -- a command that may close the page
 abbrev pub may_close : Command → Bool
@@ -47,25 +47,25 @@ pub record StopsStill (one_step : Bool) (old new : MachineState) : Type 0 where
   pub stays : one_step ≡ true → StaysPut old.page new.page
 
 -- a step that has a finding leaves the settings and the cursor
-abbrev pub StillFound : {F : Type 0} → Page → Page → Result Unit (Halt F) → Type 0
+abbrev pub StillFound : {F : Type 0} → Page → Page → Result Unit (Interruption F) → Type 0
 StillFound old new (Ok done) = Unit {0}
 StillFound old new (Err (Found finding)) = StandsStill old new
 StillFound old new (Err (Refused fault)) = Unit {0}
 
 -- the same from before the step began, which may have ended a raster
-abbrev pub StaysFound : {F : Type 0} → Page → Page → Result Unit (Halt F) → Type 0
+abbrev pub StaysFound : {F : Type 0} → Page → Page → Result Unit (Interruption F) → Type 0
 StaysFound old new (Ok done) = Unit {0}
 StaysFound old new (Err (Found finding)) = StaysPut old new
 StaysFound old new (Err (Refused fault)) = Unit {0}
 
 -- a finding is that of the step that marked
-abbrev pub FoundBy : {T F : Type 0} → Result T Finding → Result Unit (Halt F) → Type 0
+abbrev pub FoundBy : {T F : Type 0} → Result T Finding → Result Unit (Interruption F) → Type 0
 FoundBy marked (Ok done) = Unit {0}
 FoundBy marked (Err (Found finding)) = marked ≡ Err finding
 FoundBy marked (Err (Refused fault)) = Unit {0}
 
 -- there is no finding
-abbrev pub NeverFinds : {F : Type 0} → Result Unit (Halt F) → Type 0
+abbrev pub NeverFinds : {F : Type 0} → Result Unit (Interruption F) → Type 0
 NeverFinds (Ok done) = Unit {0}
 NeverFinds (Err (Found finding)) = ⊥
 NeverFinds (Err (Refused fault)) = Unit {0}

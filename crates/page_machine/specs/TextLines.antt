@@ -3,7 +3,7 @@ use Rattle.std.specs.Prelude.{◌≡◌, None, ℕ, false, map, List, [], ◌∷
 use Rattle.device_profile.specs.declared.panel.Panel.{Panel}
 use Rattle.pcl_items.specs.declared.item.Mode.TheVariants.{Pcl}
 use Rattle.pcl_items.specs.Lines.{line_item}
-use Rattle.page_env.specs.declared.text_lines.Look.{Look}
+use Rattle.page_env.specs.declared.text_lines.TextAppearance.{TextAppearance}
 use Rattle.page_env.specs.declared.text_lines.TextPlace.{TextPlace}
 use Rattle.page_env.specs.Mark.{characters_of}
 use Rattle.page_env.specs.Settings.{state_at}
@@ -23,15 +23,15 @@ pub record IsMeasuredAt (machine : MachineState) (m : TextMeasure) (from : TextP
   pub running : machine.stopped ≡ false
 
 -- the machine behind a byte that goes
-abbrev pub machine_behind : Look → TextPlace → ℕ → MachineState → MachineState
+abbrev pub machine_behind : TextAppearance → TextPlace → ℕ → MachineState → MachineState
 machine_behind look place code machine = record machine { page = page_behind look place code machine.page }
 
 -- the events of such a byte: its character, if it has one
-abbrev pub glyph_events : Look → TextPlace → ℕ → List Event
+abbrev pub glyph_events : TextAppearance → TextPlace → ℕ → List Event
 glyph_events look place code = map Marked (characters_of (glyph_at look place code))
 
 -- Each of the bytes is an item that the machine carries out to its end, whatever the panel, with the mark of this look.
-abbrev pub PrintsLines : Look → TextPlace → List ℕ → MachineState → MachineState → Type 0
+abbrev pub PrintsLines : TextAppearance → TextPlace → List ℕ → MachineState → MachineState → Type 0
 PrintsLines look place [] old new = new ≡ old
 PrintsLines look place (code ∷ codes) old new =
     let mid = machine_behind look place code old in

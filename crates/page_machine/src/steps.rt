@@ -33,7 +33,7 @@ use std::alloc::Allocator;
 
 /// Why an item was not carried out to its end.
 #[derive(Drop)]
-pub enum Halt<F> {
+pub enum Interruption<F> {
     Found(Finding),
     Refused(F),
 }
@@ -43,13 +43,13 @@ pub(crate) fn end_page<S: MarkSink>(
     page: &mut Page,
     end: PageEnd,
     sink: &mut S,
-) -> Result<(), Halt<S::Fault>>
+) -> Result<(), Interruption<S::Fault>>
     requires { (panel : Panel) → page_end_of (state_at panel page.old) ≡ end }
     ensures { Follows S.takes S.refuses (λ panel. ended (state_at panel page.old))
         sink.old sink.new page.new result }
 {
     match sink.page(end) {
-        Err(fault) => Err(Halt::Refused(fault)),
+        Err(fault) => Err(Interruption::Refused(fault)),
         Ok(()) => {
             page.cursor.y = None;
             page.marked = false;
@@ -120,7 +120,7 @@ fn hand_over_mark<S: MarkSink>(
     mark: &Option<Mark<'_>>,
     page: &Page,
     sink: &mut S,
-) -> Result<(), Halt<S::Fault>>
+) -> Result<(), Interruption<S::Fault>>
     ensures run { (conditions : Panel → Conditions) (effect : Panel → Effect) →
         ((panel : Panel) → effect panel ≡ Goes (state_at panel page.now) (shapes_of mark.now)) →
         Follows S.takes S.refuses (λ panel. effect_run (conditions panel) (effect panel))
@@ -130,7 +130,7 @@ fn hand_over_mark<S: MarkSink>(
     match mark {
         None => Ok(()),
         Some(mark) => match sink.mark(mark) {
-            Err(fault) => Err(Halt::Refused(fault)),
+            Err(fault) => Err(Interruption::Refused(fault)),
             Ok(()) => Ok(()),
         },
     }
@@ -143,7 +143,7 @@ fn hand_over<S: MarkSink>(
     marked: &Result<Option<Mark<'_>>, Finding>,
     page: &Page,
     sink: &mut S,
-) -> Result<(), Halt<S::Fault>>
+) -> Result<(), Interruption<S::Fault>>
     ensures run { (conditions : Panel → Conditions) (effect : Panel → Effect) →
         ((panel : Panel) → effect panel ≡ marked_at shapes_of panel page.now marked.now) →
         Follows S.takes S.refuses (λ panel. effect_run (conditions panel) (effect panel))
@@ -151,7 +151,7 @@ fn hand_over<S: MarkSink>(
     ensures found { FoundBy marked.now result }
 {
     match marked {
-        Err(finding) => Err(Halt::Found(*finding)),
+        Err(finding) => Err(Interruption::Found(*finding)),
         Ok(mark) => hand_over_mark(mark, page, sink),
     }
 }
@@ -164,7 +164,7 @@ fn run_text<S: MarkSink, A: Allocator>(
     code: u8,
     page: &mut Page,
     sink: &mut S,
-) -> Result<(), Halt<S::Fault>>
+) -> Result<(), Interruption<S::Fault>>
     ensures run { (conditions : Panel → Conditions) → Follows S.takes S.refuses
         (λ panel. begun_run profile.now (conditions panel) (Text code) (state_at panel page.old))
         sink.old sink.new page.new result }
@@ -180,7 +180,7 @@ fn run_byte<S: MarkSink, A: Allocator>(
     code: u8,
     page: &mut Page,
     sink: &mut S,
-) -> Result<(), Halt<S::Fault>>
+) -> Result<(), Interruption<S::Fault>>
     ensures { (conditions : Panel → Conditions) → Follows S.takes S.refuses
         (λ panel. byte_run profile.now (conditions panel) code (state_at panel page.old))
         sink.old sink.new page.new result }
@@ -196,7 +196,7 @@ fn run_bytes<S: MarkSink, A: Allocator>(
     bytes: &[u8],
     page: &mut Page,
     sink: &mut S,
-) -> Result<(), Halt<S::Fault>>
+) -> Result<(), Interruption<S::Fault>>
     ensures { (conditions : Panel → Conditions) → Follows S.takes S.refuses
         (λ panel. printing profile.now (conditions panel) (unmoved (state_at panel page.old))
         bytes.now)
@@ -216,7 +216,7 @@ fn run_row<S: MarkSink, A: Allocator>(
     bytes: &[u8],
     page: &mut Page,
     sink: &mut S,
-) -> Result<(), Halt<S::Fault>>
+) -> Result<(), Interruption<S::Fault>>
     requires { length bytes.now ≤ 32767 }
     ensures run { (conditions : Panel → Conditions) → Follows S.takes S.refuses
         (λ panel. begun_run profile.now (conditions panel) (WithData RasterRowCommand bytes.now)
@@ -237,7 +237,7 @@ fn run_data<S: MarkSink, A: Allocator>(
     lent: Data<'_>,
     page: &mut Page,
     sink: &mut S,
-) -> Result<(), Halt<S::Fault>>
+) -> Result<(), Interruption<S::Fault>>
     ensures run { (conditions : Panel → Conditions) → Follows S.takes S.refuses
         (λ panel. begun_run profile.now (conditions panel) (WithData command lent.entry.bytes.now)
         (state_at panel page.old))
@@ -262,7 +262,7 @@ fn run_own_motion<S: MarkSink, A: Allocator>(
     motion: Motion,
     page: &mut Page,
     sink: &mut S,
-) -> Result<(), Halt<S::Fault>>
+) -> Result<(), Interruption<S::Fault>>
     ensures { (to : Option (ℤ × ℤ)) (conditions : Panel → Conditions) → Follows S.takes S.refuses
         (λ panel. own_run profile.now (conditions panel) (Move motion to) (state_at panel page.old))
         sink.old sink.new page.new result }
@@ -277,7 +277,7 @@ fn run_move<S: MarkSink, A: Allocator>(
     to: Coordinates,
     page: &mut Page,
     sink: &mut S,
-) -> Result<(), Halt<S::Fault>>
+) -> Result<(), Interruption<S::Fault>>
     ensures { (conditions : Panel → Conditions) → Follows S.takes S.refuses
         (λ panel. move_run profile.now (conditions panel) (to.x.units, to.y.units)
         (state_at panel page.old))
@@ -296,7 +296,7 @@ fn move_and_draw<S: MarkSink, A: Allocator>(
     to: Option<Coordinates>,
     page: &mut Page,
     sink: &mut S,
-) -> Result<(), Halt<S::Fault>>
+) -> Result<(), Interruption<S::Fault>>
     ensures { (conditions : Panel → Conditions) → Follows S.takes S.refuses
         (λ panel. begun_run profile.now (conditions panel) (Move motion (pair to))
         (state_at panel page.old))
@@ -318,7 +318,7 @@ fn run_motion<S: MarkSink, A: Allocator>(
     to: Option<Coordinates>,
     page: &mut Page,
     sink: &mut S,
-) -> Result<(), Halt<S::Fault>>
+) -> Result<(), Interruption<S::Fault>>
     ensures { (conditions : Panel → Conditions) → Follows S.takes S.refuses
         (λ panel. begun_run profile.now (conditions panel) (Move motion (pair to))
         (state_at panel page.old))
@@ -338,7 +338,7 @@ fn run_fill<S: MarkSink, A: Allocator>(
     n: Number,
     page: &mut Page,
     sink: &mut S,
-) -> Result<(), Halt<S::Fault>>
+) -> Result<(), Interruption<S::Fault>>
     ensures run { (conditions : Panel → Conditions) → Follows S.takes S.refuses
         (λ panel. begun_run profile.now (conditions panel) (Parameterized FillRectangle (amount n))
         (state_at panel page.old))
@@ -352,16 +352,16 @@ fn run_fill<S: MarkSink, A: Allocator>(
 /// Why a step that found something was not carried out.
 // The call is rare, and keeps LLVM from choosing an answer for each step that found nothing.
 #[inline(never)]
-fn halted<F>(finding: Finding) -> Halt<F>
-    ensures { result ≡ Halt.Found finding }
+fn halted<F>(finding: Finding) -> Interruption<F>
+    ensures { result ≡ Interruption.Found finding }
 {
-    Halt::Found(finding)
+    Interruption::Found(finding)
 }
 
 /// How far an item was carried out at once.
 pub(crate) enum Ran<F> {
     /// To its end.
-    Ended(Result<(), Halt<F>>),
+    Ended(Result<(), Interruption<F>>),
     /// It has begun. It may close the page, and nothing of it is done.
     Left(PageItem),
 }

@@ -3,7 +3,7 @@
 ghost use Rattle.std.specs.Prelude.{◌≡◌};
 ghost use Rattle.page_machine.specs.Machine.{stop_of};
 
-use crate::steps::Halt;
+use crate::steps::Interruption;
 use page_env::Finding;
 use std::alloc::AllocError;
 
@@ -21,11 +21,11 @@ pub enum Stop<F> {
 }
 
 /// What a machine answers for an item that halts.
-pub(crate) fn stop_of<F>(halt: Halt<F>) -> Stop<F>
+pub(crate) fn stop_of<F>(halt: Interruption<F>) -> Stop<F>
     ensures { result ≡ stop_of halt }
 {
     match halt {
-        Halt::Found(finding) => Stop::Found(finding),
-        Halt::Refused(fault) => Stop::Refused(fault),
+        Interruption::Found(finding) => Stop::Found(finding),
+        Interruption::Refused(fault) => Stop::Refused(fault),
     }
 }

@@ -1,6 +1,6 @@
 -- What the program leaves of what it is asked for. Nothing is known of its files beforehand; the history of files tells
 -- which were read and which were written, and under which words texts of profiles were asked for.
-use Rattle.renderings.specs.Due.{list_rendering}
+use Rattle.renderings.specs.Expected.{list_rendering}
 use Rattle.std.specs.Prelude.{◌≡◌, List, ℕ, Option, map, option_map, IsFalse, IsTrue}
 use Rattle.requests.specs.declared.request.Request.{Request}
 use Rattle.requests.specs.declared.request.Request.TheVariants as requests

@@ -9,7 +9,7 @@ use Rattle.streams.specs.declared.error.Error.{Error}
 use Rattle.streams.specs.declared.error.Error.TheVariants.{Memory, Read, Write, Turns, NoProfile, Items}
 use Rattle.renderings.specs.declared.outcome.Outcome.{Outcome}
 use Rattle.renderings.specs.declared.outcome.Outcome.TheVariants.{Done as AllDone, Fail as FailsOf}
-use Rattle.renderings.specs.Due.{Rendering, IsDue, Renders, WritesDue}
+use Rattle.renderings.specs.Expected.{Rendering, IsExpected, Renders, WritesExpected}
 use Rattle.streams.specs.Errors.{is_read}
 use Rattle.streams.specs.Outlet.{OutletState, Stays}
 use Rattle.streams.specs.Pieces.{ByReads}
@@ -24,7 +24,7 @@ use Rattle.named_inputs.specs.KeptText.{kept_error}
 use Rattle.named_inputs.specs.Choices.{TellsOfChoice, TellsOfPin, choice_line, chosen_panel}
 use Rattle.streams.specs.Writing.{Writes}
 use Rattle.requests.specs.Status.{is_refusal, is_refused_choice, is_stop_of_read, is_stop_of_write}
-use Rattle.picture_command.specs.Picture.{Around, Draws, IsErrorOfSearch, IsUnsearched, IsUntouched, LeavesDrawn, LeavesOther}
+use Rattle.picture_command.specs.Picture.{BeforeAndAfter, Draws, IsErrorOfSearch, IsUnsearched, IsUntouched, LeavesDrawn, LeavesOther}
 use Rattle.picture_command.specs.Picture.{LeavesPicture, LeavesPictureOf, LeavesSame, LeavesTold, StopsSearch, TellsOutcome, TellsChange}
 use Rattle.picture_command.specs.Picture.{status_of}
 
@@ -39,7 +39,7 @@ pub kept_told : (rendering : Rendering) (job job' : SourceState) (kept kept' : O
 kept_told rendering job job' kept kept' outcome text rendered empty is =
     let due = rendered.written in
     let text_is : due.text ≡ text = sym (is ∙ (due.adds.taken ∙ ap (λ l. l ++ due.text) empty)) in
-    (subst (λ (t : List ℕ). ByReads job job' (λ bytes. IsDue rendering bytes t outcome)) text_is due.due, due.needed)
+    (subst (λ (t : List ℕ). ByReads job job' (λ bytes. IsExpected rendering bytes t outcome)) text_is due.due, due.needed)
 
 -- it was not gone through
 pub kept_stopped : (rendering : Rendering) (job job' : SourceState) (kept kept' : OutletState) (error : Error) →
@@ -83,22 +83,22 @@ search_writes Items is = absurd is
 
 -- ---- the second reading
 
-module _ (job : List ℕ) (rendering : Rendering) (a : Around) where
+module _ (job : List ℕ) (rendering : Rendering) (a : BeforeAndAfter) where
   -- it came to the same
-  same_left : (outcome : Outcome) → WritesDue rendering a.second a.second' a.out a.out' outcome → Stays a.err a.err' →
+  same_left : (outcome : Outcome) → WritesExpected rendering a.second a.second' a.out a.out' outcome → Stays a.err a.err' →
       LeavesSame (status_of outcome) rendering outcome a
   same_left AllDone due stays = (refl, due, stays)
   same_left (FailsOf place profile finding) due stays = (λ e. absurd cc, due, stays)
 
   pub left_same : (found outcome : Outcome) (status : Status) → outcome ≡ found → status ≡ status_of outcome →
-      WritesDue rendering a.second a.second' a.out a.out' outcome → Stays a.err a.err' → LeavesDrawn status job rendering found a
+      WritesExpected rendering a.second a.second' a.out a.out' outcome → Stays a.err a.err' → LeavesDrawn status job rendering found a
   left_same found outcome status same is due stays =
       subst (λ o. LeavesDrawn status job rendering o a) same
       (subst (λ s. LeavesDrawn s job rendering outcome a) (sym is) (inl (same_left outcome due stays)))
 
   -- it came to something else
   other_left : (status : Status) (found outcome : Outcome) → TellsChange status job a.err a.err' → outcome ≢ found →
-      WritesDue rendering a.second a.second' a.out a.out' outcome → LeavesOther status job rendering found a
+      WritesExpected rendering a.second a.second' a.out a.out' outcome → LeavesOther status job rendering found a
   other_left Fail found outcome told other due = (outcome, other, due, told)
   other_left (Stopped Memory) found outcome told other due = (outcome, other, due, told)
   other_left (Stopped Read) found outcome told other due = absurd told
@@ -115,7 +115,7 @@ module _ (job : List ℕ) (rendering : Rendering) (a : Around) where
   other_left (Profile number line cause) found outcome told other due = absurd told
 
   pub left_other : (status : Status) (found outcome : Outcome) → TellsChange status job a.err a.err' → outcome ≢ found →
-      WritesDue rendering a.second a.second' a.out a.out' outcome → LeavesDrawn status job rendering found a
+      WritesExpected rendering a.second a.second' a.out a.out' outcome → LeavesDrawn status job rendering found a
   left_other status found outcome told other due = inr (inl (other_left status found outcome told other due))
 
   -- it stopped
@@ -153,7 +153,7 @@ change_ends (Profile number line cause) job err err' told = absurd told
 -- ---- both
 
 pub draws_told : (status : Status) (printer : Printer) (panel : Panel) (selection : Selection) (job : List ℕ) (group : Groups)
-    (a : Around) → LeavesTold status printer panel selection job group a → Draws status printer panel selection job group a
+    (a : BeforeAndAfter) → LeavesTold status printer panel selection job group a → Draws status printer panel selection job group a
 draws_told Pass printer panel selection job group a told = told
 draws_told Fail printer panel selection job group a told = told
 draws_told Help printer panel selection job group a told = told
@@ -166,7 +166,7 @@ draws_told (Stopped error) printer panel selection job group a told = inr told
 
 -- ---- the command
 
-module _ (IsPrinter : Printer → List ℕ → Type 0) (choices : List Choice) (selection : Selection) (job : List ℕ) (a : Around) where
+module _ (IsPrinter : Printer → List ℕ → Type 0) (choices : List Choice) (selection : Selection) (job : List ℕ) (a : BeforeAndAfter) where
   pub picture_left : (status : Status) → IsFalse (is_refusal status) → LeavesPictureOf status IsPrinter choices selection job a →
       LeavesPicture status IsPrinter choices selection job a
   picture_left Pass answer left = left

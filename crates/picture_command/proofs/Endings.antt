@@ -14,13 +14,13 @@ use Rattle.sinks.specs.declared.counts.Counts.{Counts}
 use Rattle.streams.specs.Outlet.{OutletState}
 use Rattle.verdict.specs.declared.failure.Failure.{Failure}
 use Rattle.verdict.specs.Failing.{fault_at, found_at}
-use Rattle.preflight.specs.declared.culprit.Culprit.{Culprit}
-use Rattle.preflight.specs.declared.culprit.SheetSpot.{SheetSpot}
+use Rattle.preflight.specs.declared.failing_item.FailingItem.{FailingItem}
+use Rattle.preflight.specs.declared.failing_item.SheetSpot.{SheetSpot}
 use Rattle.streams.specs.declared.error.Error.{Error}
 use Rattle.renderings.specs.declared.outcome.Outcome.{Outcome}
 use Rattle.renderings.specs.declared.outcome.Outcome.TheVariants.{Done as AllDone}
-use Rattle.preflight.specs.Culprit.{IsCulprit}
-use Rattle.renderings.specs.Due.{Rendering}
+use Rattle.preflight.specs.FailingItem.{IsFailingItem}
+use Rattle.renderings.specs.Expected.{Rendering}
 use Rattle.renderings.specs.Carriers.PageRendering.{any_panel}
 use Rattle.renderings.specs.Carriers.Rendering.{EndsWith, Ended, RendersItem, StartsWith}
 use Rattle.streams.specs.Writing.{Puts}
@@ -33,7 +33,7 @@ use Rattle.picture_command.specs.Carriers.{Finishes, HasRun, Keeps, Steps, searc
 use Rattle.picture_command.specs.PageSearch.{Searched, at_item, found_at_failure, open_page, spot_where, text_at_end}
 use Rattle.picture_command.proofs.Searches.{item_goes, item_over, item_found, end_over, end_goes, end_found}
 use Rattle.picture_command.proofs.Spots.{spot_still}
-use Rattle.picture_command.proofs.Words.{culprit_at_item}
+use Rattle.picture_command.proofs.Words.{fails_at_item}
 
 -- what was told and kept is due
 kept_ended : (rendering : Rendering) (Is : Reading → Type 0) (old : OutletState) (kept kept' : List ℕ) (found : Searched)
@@ -78,13 +78,13 @@ module _ (selection : Selection) (job : List ℕ) (group : Groups) (machine : Ma
 
     pub item_fails : (found : Option Finding) (finding : Finding) → found ≡ Some finding →
         Steps machine machine' x.item counts counts' (Ok found) → false ≡ is_behind selection (open_page counts')
-        → (failure : Failure) → failure ≡ found_at x.place 1 finding → (culprit : Culprit) → IsCulprit culprit x.item
+        → (failure : Failure) → failure ≡ found_at x.place 1 finding → (failing_item : FailingItem) → IsFailingItem failing_item x.item
         → (one_step : Bool) → is_one_step x.item ≡ one_step
         → (cursor : Option SheetSpot) → cursor ≡ spot_where one_step machine'.printer (state_at any_panel machine'.page)
         → (r : Result Outcome Error)
-        → Keeps kept kept' (found_at_failure selection job group counts' (fails_where None cursor (Some culprit)) failure) r
+        → Keeps kept kept' (found_at_failure selection job group counts' (fails_where None cursor (Some failing_item)) failure) r
         → Ended rendering (StartsWith x) old old kept kept' r
-    item_fails found finding is steps goes failure failure_is culprit named one_step one cursor stood r told =
+    item_fails found finding is steps goes failure failure_is failing_item named one_step one cursor stood r told =
         let printer : Printer = machine.printer in
         let s : State = state_at any_panel machine.page in
         let at : FailsAt = at_item printer s x.item in
@@ -98,7 +98,7 @@ module _ (selection : Selection) (job : List ℕ) (group : Groups) (machine : Ma
         (item_found selection job group machine counts counts' x finding halts.0 (sym goes))
         (subst (λ (f : Failure). Keeps kept kept' (found_at_failure selection job group counts' at f) r) failure_is
         (subst (λ at. Keeps kept kept' (found_at_failure selection job group counts' at failure) r)
-        (culprit_at_item culprit x.item named printer s cursor before) told))
+        (fails_at_item failing_item x.item named printer s cursor before) told))
 
   -- ---- the end of the bytes
 

@@ -18,7 +18,7 @@ use Rattle.sinks.specs.declared.counts.Counts.{Counts}
 use Rattle.sinks.specs.Counts.{counted, counts_after, no_counts}
 use Rattle.verdict.specs.Failing.{found_at}
 use Rattle.renderings.specs.declared.outcome.Outcome.TheVariants.{Done as AllDone}
-use Rattle.renderings.specs.Due.{Rendering}
+use Rattle.renderings.specs.Expected.{Rendering}
 use Rattle.renderings.specs.Carriers.PageRendering.{any_panel}
 use Rattle.renderings.specs.Carriers.Rendering.{RestGoesOn, EndsWith, StartsWith}
 use Rattle.requests.specs.declared.selection.Selection.{Selection}

@@ -10,10 +10,10 @@ use Rattle.pcl_items.specs.Items.{Entry, simple_view}
 use Rattle.device_profile.specs.Printer.{Printer}
 use Rattle.page_env.specs.Settings.{State}
 use Rattle.page_machine.specs.Still.{is_one_step}
-use Rattle.preflight.specs.declared.culprit.Culprit.{Culprit}
-use Rattle.preflight.specs.declared.culprit.Culprit.TheVariants as culprits
-use Rattle.preflight.specs.declared.culprit.SheetSpot.{SheetSpot}
-use Rattle.preflight.specs.Culprit.{IsCulprit}
+use Rattle.preflight.specs.declared.failing_item.FailingItem.{FailingItem}
+use Rattle.preflight.specs.declared.failing_item.FailingItem.TheVariants as failing_items
+use Rattle.preflight.specs.declared.failing_item.SheetSpot.{SheetSpot}
+use Rattle.preflight.specs.FailingItem.{IsFailingItem}
 use Rattle.job_reports.specs.CommandWords.{code_words, command_words}
 use Rattle.job_reports.specs.JobSentences.{fails_where}
 use Rattle.job_reports.specs.LeftOut.{left_out_in, left_out_of}
@@ -44,18 +44,20 @@ counting command count =
     ∷ (decimal count ++ data_letter_of command ∷ [])
 
 -- what is told of an item tells it in the same words
-culprit_words : (culprit : Culprit) (item : Entry) → IsCulprit culprit item → command_words culprit ≡ item_words item
-culprit_words (culprits.Text code) item is = sym (ap item_words is)
-culprit_words (culprits.Simple plain) item is = sym (simple_words plain) ∙ sym (ap item_words is)
-culprit_words (culprits.WithData command count) item is = ap (counting command) (sym is.2) ∙ sym (ap item_words is.1)
-culprit_words culprits.Line item is = sym (ap item_words is.1)
+failing_item_words : (failing_item : FailingItem) (item : Entry) → IsFailingItem failing_item item →
+    command_words failing_item ≡ item_words item
+failing_item_words (failing_items.Text code) item is = sym (ap item_words is)
+failing_item_words (failing_items.Simple plain) item is = sym (simple_words plain) ∙ sym (ap item_words is)
+failing_item_words (failing_items.WithData command count) item is = ap (counting command) (sym is.2) ∙ sym (ap item_words is.1)
+failing_item_words failing_items.Line item is = sym (ap item_words is.1)
 
 -- and leaves out the same of its value
-culprit_leaves : (culprit : Culprit) (item : Entry) → IsCulprit culprit item → left_out_of (Some culprit) ≡ left_out_in item
-culprit_leaves (culprits.Text code) item is = sym (ap left_out_in is)
-culprit_leaves (culprits.Simple plain) item is = sym (ap left_out_in is)
-culprit_leaves (culprits.WithData command count) item is = sym (ap left_out_in is.1)
-culprit_leaves culprits.Line item is = sym (ap left_out_in is.1)
+failing_item_leaves : (failing_item : FailingItem) (item : Entry) → IsFailingItem failing_item item →
+    left_out_of (Some failing_item) ≡ left_out_in item
+failing_item_leaves (failing_items.Text code) item is = sym (ap left_out_in is)
+failing_item_leaves (failing_items.Simple plain) item is = sym (ap left_out_in is)
+failing_item_leaves (failing_items.WithData command count) item is = sym (ap left_out_in is.1)
+failing_item_leaves failing_items.Line item is = sym (ap left_out_in is.1)
 
 simple_value : (item : SimpleItem) → item_value (simple_view item) ≡ Some (drop 1 (canon (simple_view item)))
 simple_value simple.CarriageReturn = refl
@@ -75,19 +77,20 @@ simple_value (simple.Move motion to) = refl
 simple_value simple.ExitLanguage = refl
 
 -- and gives the command with its value the same key
-culprit_value : (culprit : Culprit) (item : Entry) → IsCulprit culprit item → value_key (Some culprit) ≡ item_value item
-culprit_value (culprits.Text code) item is = sym (ap item_value is)
-culprit_value (culprits.Simple plain) item is = sym (simple_value plain) ∙ sym (ap item_value is)
-culprit_value (culprits.WithData command count) item is = sym (ap item_value is.1)
-culprit_value culprits.Line item is = sym (ap item_value is.1)
+failing_item_value : (failing_item : FailingItem) (item : Entry) → IsFailingItem failing_item item →
+    value_key (Some failing_item) ≡ item_value item
+failing_item_value (failing_items.Text code) item is = sym (ap item_value is)
+failing_item_value (failing_items.Simple plain) item is = sym (simple_value plain) ∙ sym (ap item_value is)
+failing_item_value (failing_items.WithData command count) item is = sym (ap item_value is.1)
+failing_item_value failing_items.Line item is = sym (ap item_value is.1)
 
-pub culprit_at_item : (culprit : Culprit) (item : Entry) → IsCulprit culprit item → (printer : Printer) (s : State)
+pub fails_at_item : (failing_item : FailingItem) (item : Entry) → IsFailingItem failing_item item → (printer : Printer) (s : State)
     (cursor : Option SheetSpot) → cursor ≡ spot_where (is_one_step item) printer s →
-    fails_where None cursor (Some culprit) ≡ at_item printer s item
-culprit_at_item culprit item is printer s cursor stood = λ i. record {
+    fails_where None cursor (Some failing_item) ≡ at_item printer s item
+fails_at_item failing_item item is printer s cursor stood = λ i. record {
   page = None;
   cursor = stood i;
-  words = codes ", " ++ culprit_words culprit item is i;
-  value = culprit_value culprit item is i;
-  left_out = culprit_leaves culprit item is i;
+  words = codes ", " ++ failing_item_words failing_item item is i;
+  value = failing_item_value failing_item item is i;
+  left_out = failing_item_leaves failing_item item is i;
 }

@@ -13,7 +13,7 @@ use Rattle.sinks.specs.Counts.{counts_after}
 use Rattle.streams.specs.declared.error.Error.{Error}
 use Rattle.renderings.specs.declared.outcome.Outcome.{Outcome}
 use Rattle.renderings.specs.Carriers.PageRendering.{any_panel}
-use Rattle.renderings.specs.Due.{Rendering}
+use Rattle.renderings.specs.Expected.{Rendering}
 use Rattle.requests.specs.declared.selection.Selection.{Selection}
 use Rattle.job_reports.specs.Groups.{Groups}
 use Rattle.picture_command.specs.PageSearch.{Searched, reading_search}

@@ -17,7 +17,7 @@ use Rattle.page_machine.specs.Run.{Run, Ending, Done, Halts}
 use Rattle.page_machine.specs.Defining.{job_item_run, job_end_run, macros_after}
 use Rattle.page_machine.specs.Job.{with_macros}
 use Rattle.page_machine.specs.Still.{is_one_step}
-use Rattle.preflight.specs.declared.culprit.SheetSpot.{SheetSpot}
+use Rattle.preflight.specs.declared.failing_item.SheetSpot.{SheetSpot}
 use Rattle.sinks.specs.declared.counts.Counts.{Counts}
 use Rattle.sinks.specs.Counts.{capped, counts_after, no_counts}
 use Rattle.verdict.specs.declared.failure.Failure.{Failure}
@@ -27,7 +27,7 @@ use Rattle.line_words.specs.Figures.{escaped_byte, named}
 use Rattle.renderings.specs.declared.outcome.Outcome.{Outcome}
 use Rattle.renderings.specs.declared.outcome.Outcome.TheVariants.{Done as AllDone}
 use Rattle.renderings.specs.Outcomes.{fails_with}
-use Rattle.renderings.specs.Due.{Rendering}
+use Rattle.renderings.specs.Expected.{Rendering}
 use Rattle.requests.specs.declared.selection.DrawnPages.{DrawnPages}
 use Rattle.requests.specs.declared.selection.DrawnPages.TheVariants.{All, One}
 use Rattle.requests.specs.declared.selection.Selection.{Selection}

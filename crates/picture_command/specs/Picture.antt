@@ -8,7 +8,8 @@ use Rattle.streams.specs.declared.error.Error.{Error}
 use Rattle.streams.specs.declared.error.Error.TheVariants.{Memory, Read, Turns, NoProfile, Items}
 use Rattle.renderings.specs.declared.outcome.Outcome.{Outcome}
 use Rattle.renderings.specs.declared.outcome.Outcome.TheVariants.{Done as AllDone, Fail as FailsOf}
-use Rattle.renderings.specs.Due.{Rendering, IsDue, TextNeedsReads, TextStaysOpen, TextWasOpen, WritesDue, WritesFront}
+use Rattle.renderings.specs.Expected.{Rendering, IsExpected, TextNeedsReads, TextStaysOpen}
+use Rattle.renderings.specs.Expected.{TextWasOpen, WritesExpected, WritesFront}
 use Rattle.streams.specs.Writing.{Writes}
 use Rattle.streams.specs.Outlet.{OutletState, Stays}
 use Rattle.streams.specs.Pieces.{ByReads}
@@ -30,7 +31,7 @@ use Rattle.picture_command.specs.PageSearch.{search_rendering}
 -- this text and this outcome are due of each job that may be by what the reads gave, of which each was needed
 abbrev pub TellsOutcome : Rendering → SourceState → SourceState → (text : List ℕ) → Outcome → Type 0
 TellsOutcome rendering job job' text outcome =
-    ByReads job job' (λ bytes. IsDue rendering bytes text outcome) × TextNeedsReads rendering job job'
+    ByReads job job' (λ bytes. IsExpected rendering bytes text outcome) × TextNeedsReads rendering job job'
 
 -- it stopped: what is told was open before the last read, and where a read failed, it was open then
 pub record StopsSearch (rendering : Rendering) (job job' : SourceState) : Type 0 where
@@ -79,7 +80,7 @@ HasNoEnd job job' = length job'.given ≡ length job.given + 2 ^ 40
 -- ---- what is left
 
 -- where the two readings of the job, standard output and standard error stood before and behind
-pub record Around : Type 0 where
+pub record BeforeAndAfter : Type 0 where
   pub first : SourceState
   pub first' : SourceState
   pub second : SourceState
@@ -90,59 +91,59 @@ pub record Around : Type 0 where
   pub err' : OutletState
 
 -- the second reading has not begun, and nothing was drawn
-abbrev pub IsUndrawn : Around → Type 0
+abbrev pub IsUndrawn : BeforeAndAfter → Type 0
 IsUndrawn a = (a.second'.given ≡ a.second.given) × Stays a.out a.out'
 
 -- nor has the first
-abbrev pub IsUnsearched : Around → Type 0
+abbrev pub IsUnsearched : BeforeAndAfter → Type 0
 IsUnsearched a = (a.first'.given ≡ a.first.given) × IsUndrawn a
 
 -- where the second reading came to the same, and nothing is told of a change
-abbrev pub LeavesSame : Status → Rendering → Outcome → Around → Type 0
+abbrev pub LeavesSame : Status → Rendering → Outcome → BeforeAndAfter → Type 0
 LeavesSame Pass rendering outcome a =
-    (outcome ≡ AllDone) × WritesDue rendering a.second a.second' a.out a.out' outcome × Stays a.err a.err'
+    (outcome ≡ AllDone) × WritesExpected rendering a.second a.second' a.out a.out' outcome × Stays a.err a.err'
 LeavesSame Fail rendering outcome a =
-    (outcome ≢ AllDone) × WritesDue rendering a.second a.second' a.out a.out' outcome × Stays a.err a.err'
+    (outcome ≢ AllDone) × WritesExpected rendering a.second a.second' a.out a.out' outcome × Stays a.err a.err'
 LeavesSame _ rendering outcome a = ⊥
 
 -- where it came to something else: what it drew stands there, and standard error tells it
-abbrev pub LeavesOther : Status → (job : List ℕ) → Rendering → Outcome → Around → Type 0
+abbrev pub LeavesOther : Status → (job : List ℕ) → Rendering → Outcome → BeforeAndAfter → Type 0
 LeavesOther Fail job rendering outcome a =
-    (other : Outcome) × (other ≢ outcome) × WritesDue rendering a.second a.second' a.out a.out' other
+    (other : Outcome) × (other ≢ outcome) × WritesExpected rendering a.second a.second' a.out a.out' other
     × Writes a.err a.err' (change_line job)
 LeavesOther (Stopped Memory) job rendering outcome a =
-    (other : Outcome) × (other ≢ outcome) × WritesDue rendering a.second a.second' a.out a.out' other
+    (other : Outcome) × (other ≢ outcome) × WritesExpected rendering a.second a.second' a.out a.out' other
     × Stays a.err a.err'
 LeavesOther _ job rendering outcome a = ⊥
 
 -- where it stopped
-abbrev pub LeavesAtStop : Status → Rendering → Around → Type 0
+abbrev pub LeavesAtStop : Status → Rendering → BeforeAndAfter → Type 0
 LeavesAtStop (Stopped error) rendering a =
     (error ≢ NoProfile) × (error ≢ Items) × WritesFront rendering a.second a.second' a.out a.out' × Stays a.err a.err'
 LeavesAtStop _ rendering a = ⊥
 
 -- pages were drawn, of a job whose first reading came to this outcome
-abbrev pub LeavesDrawn : Status → (job : List ℕ) → Rendering → Outcome → Around → Type 0
+abbrev pub LeavesDrawn : Status → (job : List ℕ) → Rendering → Outcome → BeforeAndAfter → Type 0
 LeavesDrawn status job rendering outcome a =
     LeavesSame status rendering outcome a
     ⊎ (LeavesOther status job rendering outcome a ⊎ LeavesAtStop status rendering a)
 
 -- a page is missing, which standard error tells
-pub record LeavesMissing (status : Status) (text : List ℕ) (a : Around) : Type 0 where
+pub record LeavesMissing (status : Status) (text : List ℕ) (a : BeforeAndAfter) : Type 0 where
   pub status_is : status ≡ Fail
   pub undrawn : IsUndrawn a
   pub told : Writes a.err a.err' text
 
 -- by this text and this outcome of the first reading
 pub record LeavesBehind (status : Status) (printer : Printer) (panel : Panel) (selection : Selection)
-    (job text : List ℕ) (outcome : Outcome) (a : Around) : Type 0 where
+    (job text : List ℕ) (outcome : Outcome) (a : BeforeAndAfter) : Type 0 where
   pub missing : IsTrue (is_missing selection text outcome) → LeavesMissing status text a
   pub drawn : IsFalse (is_missing selection text outcome) →
       LeavesDrawn status job (picture_rendering printer panel selection (without_line_end text)) outcome a
 
 -- what the first reading told, and what is left behind it
 pub record LeavesTold (status : Status) (printer : Printer) (panel : Panel) (selection : Selection) (job : List ℕ)
-    (group : Groups) (a : Around) : Type 0 where
+    (group : Groups) (a : BeforeAndAfter) : Type 0 where
   pub text : List ℕ
   pub outcome : Outcome
   pub told : TellsOutcome (search_rendering printer panel selection job group) a.first a.first' text outcome
@@ -150,7 +151,7 @@ pub record LeavesTold (status : Status) (printer : Printer) (panel : Panel) (sel
 
 -- what is left for this printer, which sentences name so, from this panel;
 -- where the first reading stopped nothing was drawn
-abbrev pub Draws : Status → Printer → Panel → Selection → (job : List ℕ) → (group : Groups) → Around → Type 0
+abbrev pub Draws : Status → Printer → Panel → Selection → (job : List ℕ) → (group : Groups) → BeforeAndAfter → Type 0
 Draws (Stopped error) printer panel selection job group a =
     (IsUndrawn a × Stays a.err a.err'
     × StopsSearch (search_rendering printer panel selection job group) a.first a.first')
@@ -159,7 +160,7 @@ Draws status printer panel selection job group a = LeavesTold status printer pan
 
 -- for a printer with this fact and this name, which sentences name, from the panel that is chosen
 pub record LeavesPictureOf (status : Status) (IsPrinter : Printer → List ℕ → Type 0) (choices : List Choice)
-    (selection : Selection) (job : List ℕ) (a : Around) : Type 0 where
+    (selection : Selection) (job : List ℕ) (a : BeforeAndAfter) : Type 0 where
   pub printer : Printer
   pub name : List ℕ
   pub is_printer : IsPrinter printer name
@@ -171,11 +172,12 @@ pub record LeavesPictureOf (status : Status) (IsPrinter : Printer → List ℕ �
   pub draws : Draws status printer panel selection job group a
 
 -- nothing was read of the job, and nothing written
-abbrev pub IsUntouched : Around → Type 0
+abbrev pub IsUntouched : BeforeAndAfter → Type 0
 IsUntouched a = IsUnsearched a × Stays a.err a.err'
 
 -- what `picture` leaves where it ends by this status
-abbrev pub LeavesPicture : Status → (Printer → List ℕ → Type 0) → List Choice → Selection → (job : List ℕ) → Around →
+abbrev pub LeavesPicture : Status → (Printer → List ℕ → Type 0) → List Choice → Selection → (job : List ℕ) →
+    BeforeAndAfter →
     Type 0
 LeavesPicture (Profile number line cause) IsPrinter choices selection job a = IsUntouched a
 LeavesPicture (NotAllowed choice) IsPrinter choices selection job a = IsUnsearched a
@@ -184,6 +186,6 @@ LeavesPicture (Stopped error) IsPrinter choices selection job a =
 LeavesPicture status IsPrinter choices selection job a = LeavesPictureOf status IsPrinter choices selection job a
 
 -- the printer is the one that is named, by the only text that was read, which gives it this name
-abbrev pub IsNamedBy : (before after : List (List ℕ)) → (Printer → Type 0) → Printer → List ℕ → Type 0
-IsNamedBy before after IsPrinter printer name =
-    IsPrinter printer × ((text : List ℕ) × (after ≡ before ++ text ∷ []) × (name ≡ printer_name text))
+abbrev pub IsNamedBy : (given_before given_after : List (List ℕ)) → (Printer → Type 0) → Printer → List ℕ → Type 0
+IsNamedBy given_before given_after IsPrinter printer name =
+    IsPrinter printer × ((text : List ℕ) × (given_after ≡ given_before ++ text ∷ []) × (name ≡ printer_name text))

@@ -12,7 +12,7 @@ use Rattle.verdict.specs.Failing.{failing, fault_at}
 use Rattle.line_words.specs.Figures.{named}
 use Rattle.renderings.specs.declared.outcome.Outcome.TheVariants.{Done as AllDone}
 use Rattle.renderings.specs.Carriers.Rests.{place_told}
-use Rattle.renderings.specs.Due.{IsOver}
+use Rattle.renderings.specs.Expected.{IsOver}
 use Rattle.renderings.specs.Outcomes.{fails_with}
 use Rattle.requests.specs.declared.selection.Selection.{Selection}
 use Rattle.requests.specs.Selection.{is_drawn}

@@ -21,7 +21,7 @@ use line_words::push_named;
 use page_env::{Finding, SheetPlace, known_cursor};
 use page_machine::{Machine, Start, Stop};
 use pcl_items::{Item, LexFault, Place};
-use preflight::{Culprit, Judgement, SheetSpot, Verdict};
+use preflight::{FailingItem, Judgement, SheetSpot, Verdict};
 use renderings::{Outcome, Renderer};
 use requests::{DrawnPages, Selection};
 use sinks::Counts;
@@ -172,11 +172,11 @@ impl<'p, 'n, B: Allocator + Copy> PageSearch<'p, 'n, B> {
         text: &mut Vec<u8, A>,
         verdict: Verdict,
         cursor: Option<SheetSpot>,
-        culprit: Option<Culprit>,
+        failing_item: Option<FailingItem>,
     ) -> Result<(), AllocError>
         ensures { OnOk result (text.new.items ≡ text.old.items
             ++ sentence self.now.names.now.job.now self.now.names.now.printers.now
-            (fails_where (Some (open_page self.now.counts)) cursor culprit) verdict) }
+            (fails_where (Some (open_page self.now.counts)) cursor failing_item) verdict) }
     {
         let mut line = Vec::new(self.alloc);
         let report = Report {
@@ -184,7 +184,7 @@ impl<'p, 'n, B: Allocator + Copy> PageSearch<'p, 'n, B> {
             job: self.names.job,
             answer: Ok(Judgement {
                 verdict,
-                culprit,
+                failing_item,
                 page: Some(self.open_page()),
                 cursor,
                 font: None,
@@ -245,20 +245,20 @@ impl<'p, 'n, B: Allocator + Copy> PageSearch<'p, 'n, B> {
         text: &mut Vec<u8, A>,
         failure: Failure,
         cursor: Option<SheetSpot>,
-        culprit: Option<Culprit>,
+        failing_item: Option<FailingItem>,
     ) -> Result<Outcome, Error>
         ensures told { Keeps text.old.items text.new.items
             (found_at_failure self.now.selection self.now.names.now.job.now
             self.now.names.now.printers.now self.now.counts
-            (fails_where None cursor culprit) failure) result }
+            (fails_where None cursor failing_item) failure) result }
         ensures err { IfErr result (λ error. error ≡ Error.Memory) }
     {
         if self.selection.is_drawn(self.open_page()) {
-            self.push_sentence(text, failure.verdict(), cursor, culprit)?;
+            self.push_sentence(text, failure.verdict(), cursor, failing_item)?;
             return Ok(Outcome::of(failure));
         }
         self.push_missing_part(text)?;
-        self.push_sentence(text, failure.verdict(), cursor, culprit)?;
+        self.push_sentence(text, failure.verdict(), cursor, failing_item)?;
         Ok(Outcome::Done)
     }
 
@@ -298,9 +298,9 @@ impl<B: Allocator + Copy> Renderer for PageSearch<'_, '_, B> {
             None => Ok(None),
             Some(finding) => {
                 let failure = Failure::of_finding(place, 1, finding);
-                let culprit = Culprit::of(item);
-                let cursor = spot_where(&self.machine, culprit.is_one_step());
-                let outcome = self.tell_failure(kept, failure, cursor, Some(culprit))?;
+                let failing_item = FailingItem::of(item);
+                let cursor = spot_where(&self.machine, failing_item.is_one_step());
+                let outcome = self.tell_failure(kept, failure, cursor, Some(failing_item))?;
                 Ok(Some(outcome))
             }
         }

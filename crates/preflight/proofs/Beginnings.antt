@@ -11,10 +11,10 @@ use Rattle.page_machine.specs.declared.machine.Start.TheVariants.{Unknown}
 use Rattle.page_machine.specs.Likeness.{standing_as}
 use Rattle.page_machine.specs.Machine.{StartsFrom}
 use Rattle.page_machine.specs.MachineState.{MachineState}
-use Rattle.preflight.specs.declared.lockstep.Formation.{Formation}
-use Rattle.preflight.specs.declared.lockstep.Formation.TheVariants.{Alone, Together, Apart}
+use Rattle.preflight.specs.declared.lockstep.FleetMode.{FleetMode}
+use Rattle.preflight.specs.declared.lockstep.FleetMode.TheVariants.{Alone, Together, Apart}
 use Rattle.preflight.specs.Carriers.Each.{Each}
-use Rattle.preflight.specs.Carriers.Formation.{others_in, BeginsAs, Follows, IsFormed, KnowsNoMacro}
+use Rattle.preflight.specs.Carriers.FleetMode.{others_in, BeginsAs, Follows, IsFormed, KnowsNoMacro}
 use Rattle.preflight.specs.Carriers.Lockstep.{IsFresh}
 
 knows_none : (printer : Printer) (m : MachineState) → IsFresh printer m → KnowsNoMacro m
@@ -82,14 +82,14 @@ module _ (p : Printer) (first : MachineState) (begun : IsFresh p first) where
   none_machines [] (m ∷ ms) none fresh = absurd fresh
   none_machines (q ∷ qs) ms none fresh = absurd cc
 
-  pub fleet_begins : (formation : Formation) (qs : List Printer) (ms : List MachineState) → BeginsAs formation p qs → Each IsFresh qs ms →
-      Each IsFresh (p ∷ qs) (first ∷ others_in formation first ms)
+  pub fleet_begins : (fleet_mode : FleetMode) (qs : List Printer) (ms : List MachineState) → BeginsAs fleet_mode p qs → Each IsFresh qs ms →
+      Each IsFresh (p ∷ qs) (first ∷ others_in fleet_mode first ms)
   fleet_begins Alone qs ms begins_as fresh = (begun, subst (λ rs. Each IsFresh rs []) (sym begins_as) tt)
   fleet_begins Together qs ms begins_as fresh = (begun, followers_begin qs ms begins_as.0 fresh)
   fleet_begins Apart qs ms begins_as fresh = (begun, fresh)
 
-  pub fleet_is_formed : (formation : Formation) (qs : List Printer) (ms : List MachineState) → BeginsAs formation p qs →
-      Each IsFresh qs ms → IsFormed formation first ms
+  pub fleet_is_formed : (fleet_mode : FleetMode) (qs : List Printer) (ms : List MachineState) → BeginsAs fleet_mode p qs →
+      Each IsFresh qs ms → IsFormed fleet_mode first ms
   fleet_is_formed Alone qs ms begins_as fresh = none_machines qs ms begins_as fresh
   fleet_is_formed Together qs ms begins_as fresh =
       (knows_none p first begun, followers_follow qs ms begins_as.0 fresh, some_machines qs ms begins_as.1 fresh)

@@ -38,21 +38,21 @@ HasMore zero (x ∷ xs) = Unit {0}
 HasMore (suc n) (x ∷ xs) = HasMore n xs
 
 -- it is where this run differs from the first, and so many items come before it
-pub record IsDifference (number before : ℕ) (first items : List ItemRun) (w : Wrong) : Type 0 where
+pub record IsDifference (number count_before : ℕ) (first items : List ItemRun) (w : Wrong) : Type 0 where
   pub count : ℕ
-  pub before_is : w.before ≡ before + count
+  pub before_is : w.count_before ≡ count_before + count
   pub number_is : w.profile ≡ number
   pub reason_is : w.reason ≡ Differs
   pub has : HasItem count w.place items
   pub has_first : HasMore count first
   pub other : are_same (events_behind count first) (events_behind count items) ≡ false
 
-differing : (number before : ℕ) (a b : ItemRun) (first items : List ItemRun) (w : Wrong) (same : Bool) →
-    (IsIn w (differences_in first number (before + 1) items) → IsDifference number (before + 1) first items w) →
+differing : (number count_before : ℕ) (a b : ItemRun) (first items : List ItemRun) (w : Wrong) (same : Bool) →
+    (IsIn w (differences_in first number (count_before + 1) items) → IsDifference number (count_before + 1) first items w) →
     are_same a.events b.events ≡ same →
-    IsIn w (cond same (differences_in first number (before + 1) items) (wrong before b.place number Differs ∷ [])) →
-    IsDifference number before (a ∷ first) (b ∷ items) w
-differing number before a b first items w true rest is h =
+    IsIn w (cond same (differences_in first number (count_before + 1) items) (wrong count_before b.place number Differs ∷ [])) →
+    IsDifference number count_before (a ∷ first) (b ∷ items) w
+differing number count_before a b first items w true rest is h =
     let d = rest h in
     record {
       count = suc d.count;
@@ -63,55 +63,57 @@ differing number before a b first items w true rest is h =
       has_first = d.has_first;
       other = d.other;
     }
-differing number before a b first items w false rest is (inl here) = record {
+differing number count_before a b first items w false rest is (inl here) = record {
   count = zero;
-  before_is = omega (arith, ap (λ (v : Wrong). v.before) here);
+  before_is = omega (arith, ap (λ (v : Wrong). v.count_before) here);
   number_is = sym (ap (λ (v : Wrong). v.profile) here);
   reason_is = sym (ap (λ (v : Wrong). v.reason) here);
   has = ap (λ (v : Wrong). v.place) here;
   has_first = tt;
   other = is;
 }
-differing number before a b first items w false rest is (inr nothing) = absurd nothing
+differing number count_before a b first items w false rest is (inr nothing) = absurd nothing
 
-pub its_difference : (number before : ℕ) (first items : List ItemRun) (w : Wrong) → IsIn w (differences_in first number before items) →
-    IsDifference number before first items w
-its_difference number before [] items w h = absurd h
-its_difference number before (a ∷ first) [] w h = absurd h
-its_difference number before (a ∷ first) (b ∷ items) w h =
-    differing number before a b first items w (are_same a.events b.events) (its_difference number (before + 1) first items w) refl h
+pub its_difference : (number count_before : ℕ) (first items : List ItemRun) (w : Wrong) →
+    IsIn w (differences_in first number count_before items) →
+    IsDifference number count_before first items w
+its_difference number count_before [] items w h = absurd h
+its_difference number count_before (a ∷ first) [] w h = absurd h
+its_difference number count_before (a ∷ first) (b ∷ items) w h =
+    differing number count_before a b first items w (are_same a.events b.events)
+    (its_difference number (count_before + 1) first items w) refl h
 
 -- ---- where two runs differ first, they are the same before
 
-same_head : (m before n : ℕ) (a b : ItemRun) (first items : List ItemRun) (same : Bool) → are_same a.events b.events ≡ same →
-    ((v : Wrong) → IsIn v (cond same (differences_in first m (before + 1) items) (wrong before b.place m Differs ∷ [])) →
-    before + suc n ≤ v.before) →
-    (b.events ≡ a.events) × ((v : Wrong) → IsIn v (differences_in first m (before + 1) items) → before + 1 + n ≤ v.before)
-same_head m before n a b first items true is h = (sym ((events_decide a.events b.events).0 is), λ v has. omega (arith, h v has))
-same_head m before n a b first items false is h = absurd (omega (arith, h (wrong before b.place m Differs) (inl refl)))
+same_head : (m count_before n : ℕ) (a b : ItemRun) (first items : List ItemRun) (same : Bool) → are_same a.events b.events ≡ same →
+    ((v : Wrong) → IsIn v (cond same (differences_in first m (count_before + 1) items) (wrong count_before b.place m Differs ∷ [])) →
+    count_before + suc n ≤ v.count_before) →
+    (b.events ≡ a.events) × ((v : Wrong) → IsIn v (differences_in first m (count_before + 1) items) → count_before + 1 + n ≤ v.count_before)
+same_head m count_before n a b first items true is h = (sym ((events_decide a.events b.events).0 is), λ v has. omega (arith, h v has))
+same_head m count_before n a b first items false is h = absurd (omega (arith, h (wrong count_before b.place m Differs) (inl refl)))
 
-pub same_before : (m before n : ℕ) (first items : List ItemRun) →
-    ((v : Wrong) → IsIn v (differences_in first m before items) → before + n ≤ v.before) →
+pub same_before : (m count_before n : ℕ) (first items : List ItemRun) →
+    ((v : Wrong) → IsIn v (differences_in first m count_before items) → count_before + n ≤ v.count_before) →
     HasMore n first → HasMore n items → events_before n items ≡ events_before n first
-same_before m before zero first items h more others = refl
-same_before m before (suc n) [] items h more others = absurd more
-same_before m before (suc n) (a ∷ first) [] h more others = absurd others
-same_before m before (suc n) (a ∷ first) (b ∷ items) h more others =
-    let same = same_head m before n a b first items (are_same a.events b.events) refl h in
+same_before m count_before zero first items h more others = refl
+same_before m count_before (suc n) [] items h more others = absurd more
+same_before m count_before (suc n) (a ∷ first) [] h more others = absurd others
+same_before m count_before (suc n) (a ∷ first) (b ∷ items) h more others =
+    let same = same_head m count_before n a b first items (are_same a.events b.events) refl h in
     ap (λ events. events ∷ events_before n items) same.0
-    ∙ ap (λ rest. a.events ∷ rest) (same_before m (before + 1) n first items same.1 more others)
+    ∙ ap (λ rest. a.events ∷ rest) (same_before m (count_before + 1) n first items same.1 more others)
 
 -- and at the item too, where they differ later still
-pub same_there : (m before n : ℕ) (first items : List ItemRun) →
-    ((v : Wrong) → IsIn v (differences_in first m before items) → before + n < v.before) →
+pub same_there : (m count_before n : ℕ) (first items : List ItemRun) →
+    ((v : Wrong) → IsIn v (differences_in first m count_before items) → count_before + n < v.count_before) →
     HasMore n first → HasMore n items → events_behind n items ≡ events_behind n first
-same_there m before n [] items h more others = absurd more
-same_there m before n (a ∷ first) [] h more others = absurd others
-same_there m before zero (a ∷ first) (b ∷ items) h more others =
-    (same_head m before zero a b first items (are_same a.events b.events) refl (λ v has. omega (arith, h v has))).0
-same_there m before (suc n) (a ∷ first) (b ∷ items) h more others =
-    let same = same_head m before (suc n) a b first items (are_same a.events b.events) refl (λ v has. omega (arith, h v has)) in
-    same_there m (before + 1) n first items (λ v has. omega (arith, same.1 v has)) more others
+same_there m count_before n [] items h more others = absurd more
+same_there m count_before n (a ∷ first) [] h more others = absurd others
+same_there m count_before zero (a ∷ first) (b ∷ items) h more others =
+    (same_head m count_before zero a b first items (are_same a.events b.events) refl (λ v has. omega (arith, h v has))).0
+same_there m count_before (suc n) (a ∷ first) (b ∷ items) h more others =
+    let same = same_head m count_before (suc n) a b first items (are_same a.events b.events) refl (λ v has. omega (arith, h v has)) in
+    same_there m (count_before + 1) n first items (λ v has. omega (arith, same.1 v has)) more others
 
 pub more_through : (n place : ℕ) (items : List ItemRun) → GoesThrough n place items → HasMore n items
 more_through n place [] h = absurd h
@@ -122,18 +124,18 @@ more_through (suc n) place (x ∷ items) h = more_through n place items h.1
 
 abbrev ComesThrough : JobRun → JobRun → Type 0
 ComesThrough r r' =
-    (number before n place : ℕ) → HasItem n place r'.items →
-    ((w : Wrong) → IsIn w (findings_in number before r.items) → before + n < w.before) → GoesThrough n place r.items
+    (number count_before n place : ℕ) → HasItem n place r'.items →
+    ((w : Wrong) → IsIn w (findings_in number count_before r.items) → count_before + n < w.count_before) → GoesThrough n place r.items
 
 item_through : (at : ℕ) (es es' : List Event) (p p' : Peaks) (e e' : Ending) (next next' : State → JobRun) →
     ((s s' : State) → ComesThrough (next s) (next' s')) → ComesThrough (ended_item at es p e next) (ended_item at es' p' e' next')
-item_through at es es' p p' (Halts f) e' next next' rest number before n place has later =
-    absurd (omega (arith, later (wrong before at number (FindingOfRun f)) (inl refl)))
-item_through at es es' p p' (Done s) (Done s') next next' rest number before zero place has later = (refl, has)
-item_through at es es' p p' (Done s) (Halts g) next next' rest number before zero place has later = (refl, has)
-item_through at es es' p p' (Done s) (Done s') next next' rest number before (suc n) place has later =
-    (refl, rest s s' number (before + 1) n place has (λ w h. omega (arith, later w h)))
-item_through at es es' p p' (Done s) (Halts g) next next' rest number before (suc n) place has later = absurd has
+item_through at es es' p p' (Halts f) e' next next' rest number count_before n place has later =
+    absurd (omega (arith, later (wrong count_before at number (FindingOfRun f)) (inl refl)))
+item_through at es es' p p' (Done s) (Done s') next next' rest number count_before zero place has later = (refl, has)
+item_through at es es' p p' (Done s) (Halts g) next next' rest number count_before zero place has later = (refl, has)
+item_through at es es' p p' (Done s) (Done s') next next' rest number count_before (suc n) place has later =
+    (refl, rest s s' number (count_before + 1) n place has (λ w h. omega (arith, later w h)))
+item_through at es es' p p' (Done s) (Halts g) next next' rest number count_before (suc n) place has later = absurd has
 
 module _ (p q : Printer) (d e : Settings) where
   items_through : (finally finally' : Store → State → JobRun) →
@@ -153,10 +155,11 @@ module _ (p q : Printer) (d e : Settings) where
       let r : Run = job_end_run (with_macros p d k) s in
       let r' : Run = job_end_run (with_macros q e k') s' in
       item_through place r.events r'.events r.peaks r'.peaks r.ending r'.ending at_end at_end
-      (λ s s' number before n place has later. absurd has)
+      (λ s s' number count_before n place has later. absurd has)
 
 pub comes_through : (p q : Printer) (reading : Reading) (number n place : ℕ) → HasItem n place (watched_items q reading) →
-    ((w : Wrong) → IsIn w (findings_in number 0 (watched_items p reading)) → n < w.before) → GoesThrough n place (watched_items p reading)
+    ((w : Wrong) → IsIn w (findings_in number 0 (watched_items p reading)) → n < w.count_before) →
+    GoesThrough n place (watched_items p reading)
 comes_through p q (Whole items at) number n place has later =
     let d : Settings = user_defaults (watched p) (first_panel p) in
     let e : Settings = user_defaults (watched q) (first_panel q) in
@@ -165,7 +168,7 @@ comes_through p q (Whole items at) number n place has later =
 comes_through p q (Stopped items at cause) number n place has later =
     let d : Settings = user_defaults (watched p) (first_panel p) in
     let e : Settings = user_defaults (watched q) (first_panel q) in
-    items_through p q d e no_end no_end (λ k k' s s' number before n place has later. absurd has) items (no_macros p.memory)
+    items_through p q d e no_end no_end (λ k k' s s' number count_before n place has later. absurd has) items (no_macros p.memory)
     (no_macros q.memory) (start_state p.most_items d) (start_state q.most_items e) number 0 n place has (λ w h. omega (arith, later w h))
 
 -- ---- the front of a run is the run of a front

@@ -38,23 +38,28 @@ module _ (anywhere : (printer : Printer) (reading : Reading) → IsWatchedAlike 
   abbrev differing : List Wrong
   differing = of_each differs 1 (runs_of fleet reading)
 
-  abbrev its : IsDifference (1 + length of.before) 0 first_items (watched_items of.printer reading) w
-  its = its_difference (1 + length of.before) 0 first_items (watched_items of.printer reading) w of.is_in
+  abbrev its : IsDifference (1 + length of.printers_before) 0 first_items (watched_items of.printer reading) w
+  its = its_difference (1 + length of.printers_before) 0 first_items (watched_items of.printer reading) w of.is_in
 
   abbrev numbered : IsNumbered fleet w.profile of.printer
-  numbered = record { before = of.before; after = of.after; fleet_is = of.fleet_is; number_is = omega (arith, its.number_is) }
+  numbered = record {
+    printers_before = of.printers_before;
+    after = of.after;
+    fleet_is = of.fleet_is;
+    number_is = omega (arith, its.number_is);
+  }
 
   -- what is found comes later, and no printer differs sooner
-  found_later : (v : Wrong) → IsIn v found → its.count < v.before
+  found_later : (v : Wrong) → IsIn v found → its.count < v.count_before
   found_later v has =
-      elim (cases_lt its.count v.before) [
+      elim (cases_lt its.count v.count_before) [
         | inl later ↦ later
         | inr sooner ↦
             absurd
             (none_differs reading fleet w (in_front w v found differing soon has (omega (arith, sooner, its.before_is))) its.reason_is)
       ]
 
-  no_sooner : (v : Wrong) → IsIn v differing → its.count ≤ v.before
+  no_sooner : (v : Wrong) → IsIn v differing → its.count ≤ v.count_before
   no_sooner v has = omega (arith, its.before_is, least w v (found ++ differing) soon (in_right v found differing has))
 
   -- a run of a printer of the fleet
@@ -82,7 +87,7 @@ module _ (anywhere : (printer : Printer) (reading : Reading) → IsWatchedAlike 
 
   found_at_number : (number : ℕ) (printer : Printer) → IsNumbered fleet number printer → IsCounted findings_in found reading printer
   found_at_number number printer at =
-      all_split (IsCounted findings_in found reading) at.before printer at.after
+      all_split (IsCounted findings_in found reading) at.printers_before printer at.after
       (subst (AllByRecursion (IsCounted findings_in found reading)) at.fleet_is all_found)
 
   -- before the item all give the same events
@@ -107,26 +112,28 @@ module _ (anywhere : (printer : Printer) (reading : Reading) → IsWatchedAlike 
   alike_there each lower at less panel allowed =
       let counted = found_at_number lower each at in
       let later =
-      later_with_lower differs (λ n before items v h. (its_difference n before first_items items v h).number_is) reading fleet w found
+      later_with_lower differs (λ n count_before items v h. (its_difference n count_before first_items items v h).number_is)
+      reading fleet w found
       [] none_found soon_at_end each lower at less in
       (from_any each counted panel allowed).1
       ∙ same_there lower 0 its.count first_items (watched_items each reading) (λ v h. omega (arith, later v h, its.before_is)) its.has_first
       (more_through its.count w.place (watched_items each reading) (goes_there each counted))
 
   -- the first printer does not differ from itself
-  not_first : (before : List Printer) → of.before ≡ before → 1 < w.profile
-  not_first (x ∷ before) is = omega (arith, its.number_is, ap length is)
+  not_first : (printers_before : List Printer) → of.printers_before ≡ printers_before → 1 < w.profile
+  not_first (x ∷ printers_before) is = omega (arith, its.number_is, ap length is)
   not_first [] is =
       let run : List ItemRun = watched_items of.printer reading in
       let at : IsNumbered fleet 1 of.printer = record {
-        before = [];
+        printers_before = [];
         after = of.after;
         fleet_is = of.fleet_is ∙ ap (λ front. front ++ of.printer ∷ of.after) is;
         number_is = omega arith;
       } in
-      let here : IsIn w (differences_in run (1 + length of.before) 0 run) =
-      subst (λ first. IsIn w (differences_in first (1 + length of.before) 0 run)) (first_is fleet reading of.printer at) of.is_in in
-      absurd (subst (IsIn w) (same_differences (1 + length of.before) 0 run) here)
+      let here : IsIn w (differences_in run (1 + length of.printers_before) 0 run) =
+      subst (λ first. IsIn w (differences_in first (1 + length of.printers_before) 0 run))
+      (first_is fleet reading of.printer at) of.is_in in
+      absurd (subst (IsIn w) (same_differences (1 + length of.printers_before) 0 run) here)
 
   other_events : (panel : Panel) → IsAllowed of.printer panel →
       events_behind its.count (plain_run of.printer panel reading).items ≢ events_behind its.count first_items
@@ -139,10 +146,10 @@ module _ (anywhere : (printer : Printer) (reading : Reading) → IsWatchedAlike 
 
   says_differs : SaysDiffers fleet reading w.place w.profile
   says_differs = record {
-    before = its.count;
+    count_before = its.count;
     printer = of.printer;
     is_numbered = numbered;
-    is_not_first = not_first of.before refl;
+    is_not_first = not_first of.printers_before refl;
     through = λ each has panel allowed.
         let counted = all_contained (IsCounted findings_in found reading) fleet each all_found has in (
           (from_any each counted panel allowed).0,

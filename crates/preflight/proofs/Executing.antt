@@ -26,17 +26,17 @@ use Rattle.verdict.specs.Failing.{found_at}
 use Rattle.sinks.specs.Counts.{counts_after, pages_after}
 use Rattle.sinks.specs.Recorder.{Recorded, recorded_all}
 use Rattle.sinks.proofs.Recording.{recorder_takes, TakesAll-recorded}
-use Rattle.preflight.specs.Standing.{StandsAfter, StandsBy, is_open}
-use Rattle.preflight.specs.declared.standing.Standing.{Standing}
+use Rattle.preflight.specs.CheckState.{StandsAfter, StandsBy, is_open}
+use Rattle.preflight.specs.declared.check_state.CheckState.{CheckState}
 use Rattle.preflight.specs.Carriers.Each.{Each}
-use Rattle.preflight.specs.declared.lockstep.Formation.{Formation}
-use Rattle.preflight.specs.Carriers.Formation.{others_in, fleet_of, IsFormed, GoesAsOne}
+use Rattle.preflight.specs.declared.lockstep.FleetMode.{FleetMode}
+use Rattle.preflight.specs.Carriers.FleetMode.{others_in, fleet_of, IsFormed, GoesAsOne}
 use Rattle.preflight.specs.Carriers.Lockstep.{Action, Execute, Fleet, carrying_of, is_last, Does, IsDone, Finds, FoundFrom, DiffersFrom}
 use Rattle.preflight.specs.Carriers.Lockstep.{WrongFrom, IsWrong, Compared, CountsPages, FindsAt, GoesInStep, PagesAt, StopsAt, StopsFor}
 use Rattle.preflight.specs.Carriers.Lockstep.{StopsThere}
 use Rattle.preflight.proofs.Counting.{counter_takes, counter_refuses, TakesAll-counts, pages_counted, pages_taken}
-use Rattle.preflight.proofs.Formations.{all_do, still_formed}
-use Rattle.preflight.proofs.Standings.{failed_by, open_by, refused_by}
+use Rattle.preflight.proofs.FleetModes.{all_do, still_formed}
+use Rattle.preflight.proofs.CheckStates.{failed_by, open_by, refused_by}
 
 -- ---- one machine
 
@@ -66,91 +66,91 @@ module _ {S F : Type 0} (takes refuses : S → Event → S → Type 0) (action :
   was_running (Err stops.Stopped) running h = let both : true ≡ false = sym h.0 ∙ running in absurd cc
 
   -- where the check is open, it executed the action
-  pub does_by : (place number : ℕ) (answer : Result Unit (Stop F)) (standing : Standing) → StandsAfter place number answer standing →
-      is_open standing ≡ true → Answers answer →
+  pub does_by : (place number : ℕ) (answer : Result Unit (Stop F)) (state : CheckState) → StandsAfter place number answer state →
+      is_open state ≡ true → Answers answer →
       (events : List Event) × Does action events machine machine' × TakesAll takes sink events sink'
-  does_by place number (Ok done) standing stands is h = (h.2.events, does_of takes action sink sink' machine machine' h.1 h.2, h.2.leads)
-  does_by place number (Err (stops.Found finding)) standing stands is h =
+  does_by place number (Ok done) state stands is h = (h.2.events, does_of takes action sink sink' machine machine' h.1 h.2, h.2.leads)
+  does_by place number (Err (stops.Found finding)) state stands is h =
       let both : false ≡ true = sym (ap is_open stands) ∙ is in absurd cc
-  does_by place number (Err (stops.Refused fault)) standing stands is h =
+  does_by place number (Err (stops.Refused fault)) state stands is h =
       let both : false ≡ true = sym (ap is_open stands) ∙ is in absurd cc
-  does_by place number (Err (stops.Memory error)) standing stands is h = let both : false ≡ true = sym (ap is_open stands) ∙ is in absurd cc
-  does_by place number (Err stops.Stopped) standing stands is h = absurd stands
+  does_by place number (Err (stops.Memory error)) state stands is h = let both : false ≡ true = sym (ap is_open stands) ∙ is in absurd cc
+  does_by place number (Err stops.Stopped) state stands is h = absurd stands
 
   -- where it is not, it has a finding, or memory was refused
-  pub fails_by : (P : Option Failure → Type 0) (place number : ℕ) (answer : Result Unit (Stop F)) (standing : Standing) →
-      StandsAfter place number answer standing → is_open standing ≡ false → Answers answer
+  pub fails_by : (P : Option Failure → Type 0) (place number : ℕ) (answer : Result Unit (Stop F)) (state : CheckState) →
+      StandsAfter place number answer state → is_open state ≡ false → Answers answer
       → ((finding : Finding) (finds : Finds action finding machine) → TakesAll takes sink finds.events sink' →
       StopsStill (carrying_of machine action).one_step machine machine' →
       P (Some (found_at place number finding)))
-      → StandsBy standing P
-  fails_by P place number (Ok done) standing stands is h wrong = let both : true ≡ false = sym (ap is_open stands) ∙ is in absurd cc
-  fails_by P place number (Err (stops.Found finding)) standing stands is h wrong =
-      failed_by P standing (found_at place number finding) stands
+      → StandsBy state P
+  fails_by P place number (Ok done) state stands is h wrong = let both : true ≡ false = sym (ap is_open stands) ∙ is in absurd cc
+  fails_by P place number (Err (stops.Found finding)) state stands is h wrong =
+      failed_by P state (found_at place number finding) stands
       (wrong finding (record { events = h.2.events; peaks = h.2.peaks; run = h.2.is }) h.2.leads h.3)
-  fails_by P place number (Err (stops.Refused fault)) standing stands is h wrong = refused_by P standing stands
-  fails_by P place number (Err (stops.Memory error)) standing stands is h wrong = refused_by P standing stands
-  fails_by P place number (Err stops.Stopped) standing stands is h wrong = absurd stands
+  fails_by P place number (Err (stops.Refused fault)) state stands is h wrong = refused_by P state stands
+  fails_by P place number (Err (stops.Memory error)) state stands is h wrong = refused_by P state stands
+  fails_by P place number (Err stops.Stopped) state stands is h wrong = absurd stands
 
 -- the first machine, where all do what it does
-module _ (action : Action) (place : ℕ) (formation : Formation) (counts counts' : Counts) (first first' : MachineState)
+module _ (action : Action) (place : ℕ) (fleet_mode : FleetMode) (counts counts' : Counts) (first first' : MachineState)
     (others : List MachineState)
     (all : (events : List Event) → Does action events first first' →
-    Each (Does action events) (first ∷ others_in formation first others) (first' ∷ others_in formation first' others))
+    Each (Does action events) (first ∷ others_in fleet_mode first others) (first' ∷ others_in fleet_mode first' others))
   where
     abbrev came : Option Failure → Type 0
     came failed =
-        GoesInStep action place (first ∷ others_in formation first others)
-        (first' ∷ others_in formation first' others) counts counts' failed
+        GoesInStep action place (first ∷ others_in fleet_mode first others)
+        (first' ∷ others_in fleet_mode first' others) counts counts' failed
 
-    pub as_one_in_step : {F : Type 0} (answer : Result Unit (Stop F)) (standing : Standing) → StandsAfter place 1 answer standing
+    pub as_one_in_step : {F : Type 0} (answer : Result Unit (Stop F)) (state : CheckState) → StandsAfter place 1 answer state
         → CarriesOn counter_takes counter_refuses (carrying_of first action) (is_last action) counts counts' first first' answer
-        → StandsBy standing (λ failed.
-        GoesInStep action place (first ∷ others_in formation first others)
-        (first' ∷ others_in formation first' others) counts counts' failed)
-    as_one_in_step (Ok done) standing stands h =
-        open_by came standing stands (
+        → StandsBy state (λ failed.
+        GoesInStep action place (first ∷ others_in fleet_mode first others)
+        (first' ∷ others_in fleet_mode first' others) counts counts' failed)
+    as_one_in_step (Ok done) state stands h =
+        open_by came state stands (
           h.2.events,
           all h.2.events (does_of counter_takes action counts counts' first first' h.1 h.2),
           TakesAll-counts counts counts' h.2.events h.2.leads,
         )
-    as_one_in_step (Err (stops.Found finding)) standing stands h =
+    as_one_in_step (Err (stops.Found finding)) state stands h =
         let finds : Finds action finding first = record { events = h.2.events; peaks = h.2.peaks; run = h.2.is } in
-        failed_by came standing (found_at place 1 finding) stands
+        failed_by came state (found_at place 1 finding) stands
         (refl, inl (refl, finds), inl (refl, (finds, pages_taken counts counts' h.2.events h.2.leads)), inl (refl, h.3))
-    as_one_in_step (Err (stops.Refused fault)) standing stands h = refused_by came standing stands
-    as_one_in_step (Err (stops.Memory error)) standing stands h = refused_by came standing stands
-    as_one_in_step (Err stops.Stopped) standing stands h = absurd stands
+    as_one_in_step (Err (stops.Refused fault)) state stands h = refused_by came state stands
+    as_one_in_step (Err (stops.Memory error)) state stands h = refused_by came state stands
+    as_one_in_step (Err stops.Stopped) state stands h = absurd stands
 
 -- an item that does the same on all
-module _ (law : (item : Entry) → RunsOnLike item) (item : Entry) (formation : Formation) (counts counts' : Counts)
-    (first first' : MachineState) (others : List MachineState) (formed : IsFormed formation first others)
-    (goes : GoesAsOne formation first others item) where
+module _ (law : (item : Entry) → RunsOnLike item) (item : Entry) (fleet_mode : FleetMode) (counts counts' : Counts)
+    (first first' : MachineState) (others : List MachineState) (formed : IsFormed fleet_mode first others)
+    (goes : GoesAsOne fleet_mode first others item) where
   -- all of a fleet have done what the first did, whatever the item was read as
-  pub item_in_step : {F : Type 0} (read : Entry) → read ≡ item → (old : Fleet) → fleet_of formation first others counts ≡ old → (place : ℕ)
-      (answer : Result Unit (Stop F)) (standing : Standing) → StandsAfter place 1 answer standing
+  pub item_in_step : {F : Type 0} (read : Entry) → read ≡ item → (old : Fleet) → fleet_of fleet_mode first others counts ≡ old → (place : ℕ)
+      (answer : Result Unit (Stop F)) (state : CheckState) → StandsAfter place 1 answer state
       → CarriesOn counter_takes counter_refuses (carrying_of first (Execute item)) false counts counts' first first' answer
-      → StandsBy standing
-      (λ failed. GoesInStep (Execute read) place old.machines (first' ∷ others_in formation first' others) old.counts counts' failed)
-  item_in_step read is old stood place answer standing stands h =
+      → StandsBy state
+      (λ failed. GoesInStep (Execute read) place old.machines (first' ∷ others_in fleet_mode first' others) old.counts counts' failed)
+  item_in_step read is old stood place answer state stands h =
       subst
-      (λ (i : Entry). StandsBy standing
-      (λ failed. GoesInStep (Execute i) place old.machines (first' ∷ others_in formation first' others) old.counts counts' failed))
+      (λ (i : Entry). StandsBy state
+      (λ failed. GoesInStep (Execute i) place old.machines (first' ∷ others_in fleet_mode first' others) old.counts counts' failed))
       (sym is)
       (subst
-      (λ (f : Fleet). StandsBy standing
-      (λ failed. GoesInStep (Execute item) place f.machines (first' ∷ others_in formation first' others) f.counts counts' failed))
+      (λ (f : Fleet). StandsBy state
+      (λ failed. GoesInStep (Execute item) place f.machines (first' ∷ others_in fleet_mode first' others) f.counts counts' failed))
       stood
-      (as_one_in_step (Execute item) place formation counts counts' first first' others
-      (λ events does. all_do law item events first first' does formation others formed goes) answer standing stands h))
+      (as_one_in_step (Execute item) place fleet_mode counts counts' first first' others
+      (λ events does. all_do law item events first first' does fleet_mode others formed goes) answer state stands h))
 
   -- where it goes on they stand as they stood
   pub as_one_formed : {F : Type 0} (answer : Result Unit (Stop F)) → first.stopped ≡ false → first'.stopped ≡ false
       → CarriesOn counter_takes counter_refuses (carrying_of first (Execute item)) false counts counts' first first' answer
-      → IsFormed formation first' others
+      → IsFormed fleet_mode first' others
   as_one_formed (Ok done) running runs h =
       still_formed law item h.2.events first first'
-      (does_of counter_takes (Execute item) counts counts' first first' h.1 h.2) formation others formed goes
+      (does_of counter_takes (Execute item) counts counts' first first' h.1 h.2) fleet_mode others formed goes
   as_one_formed (Err (stops.Found finding)) running runs h = let both : true ≡ false = sym h.1 ∙ runs in absurd cc
   as_one_formed (Err (stops.Refused fault)) running runs h = let both : true ≡ false = sym h.1 ∙ runs in absurd cc
   as_one_formed (Err (stops.Memory error)) running runs h = let both : true ≡ false = sym h.1 ∙ runs in absurd cc
@@ -234,12 +234,12 @@ written_back n old new new_len old_len =
     ∙ (ap (take n) (append-nil new) ∙ take_all n new (omega (arith, new_len)))
 
 -- the others where they stand, written back
-pub parted : (formation : Formation) (first : MachineState) (n : ℕ) (items lent stood now : List MachineState) →
-    now ≡ take n (stood ++ drop (length stood) items) → stood ≡ others_in formation first lent → lent ≡ items → length stood ≡ n →
+pub parted : (fleet_mode : FleetMode) (first : MachineState) (n : ℕ) (items lent stood now : List MachineState) →
+    now ≡ take n (stood ++ drop (length stood) items) → stood ≡ others_in fleet_mode first lent → lent ≡ items → length stood ≡ n →
     length items ≡ n
-    → now ≡ others_in formation first items
-parted formation first n items lent stood now is stand same stood_len len =
-    is ∙ (written_back n items stood stood_len len ∙ (stand ∙ ap (others_in formation first) same))
+    → now ≡ others_in fleet_mode first items
+parted fleet_mode first n items lent stood now is stand same stood_len len =
+    is ∙ (written_back n items stood stood_len len ∙ (stand ∙ ap (others_in fleet_mode first) same))
 
 -- what a comparer tells of the events that it took
 pub differ_of : (given events : List Event) (differs : Bool) → IsFalse differs ↔ (given ≡ events) → differs ≡ true → given ≢ events

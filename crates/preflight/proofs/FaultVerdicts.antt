@@ -28,27 +28,30 @@ both : (xs ys : List Wrong) → AreOfRuns xs → AreOfRuns ys → AreOfRuns (xs 
 both [] ys h k = k
 both (x ∷ xs) ys h k = (h.0, both xs ys h.1 k)
 
-findings_are : (profile before : ℕ) (items : List ItemRun) → AreOfRuns (findings_in profile before items)
-findings_are profile before [] = tt
-findings_are profile before (item ∷ items) = by item.finding (findings_are profile (before + 1) items)
+findings_are : (profile count_before : ℕ) (items : List ItemRun) → AreOfRuns (findings_in profile count_before items)
+findings_are profile count_before [] = tt
+findings_are profile count_before (item ∷ items) = by item.finding (findings_are profile (count_before + 1) items)
   where
-    by : (o : Option Finding) → AreOfRuns (findings_in profile (before + 1) items) →
-        AreOfRuns (found_or profile before item.place o (findings_in profile (before + 1) items))
+    by : (o : Option Finding) → AreOfRuns (findings_in profile (count_before + 1) items) →
+        AreOfRuns (found_or profile count_before item.place o (findings_in profile (count_before + 1) items))
     by (Some finding) h = (tt, tt)
     by None h = h
 
-differences_are : (first : List ItemRun) (profile before : ℕ) (items : List ItemRun) → AreOfRuns (differences_in first profile before items)
-differences_are [] profile before items = tt
-differences_are (a ∷ first) profile before [] = tt
-differences_are (a ∷ first) profile before (b ∷ items) = by (are_same a.events b.events) (differences_are first profile (before + 1) items)
+differences_are : (first : List ItemRun) (profile count_before : ℕ) (items : List ItemRun) →
+    AreOfRuns (differences_in first profile count_before items)
+differences_are [] profile count_before items = tt
+differences_are (a ∷ first) profile count_before [] = tt
+differences_are (a ∷ first) profile count_before (b ∷ items) =
+    by (are_same a.events b.events) (differences_are first profile (count_before + 1) items)
   where
-    by : (same : Bool) → AreOfRuns (differences_in first profile (before + 1) items) →
-        AreOfRuns (if same then differences_in first profile (before + 1) items else wrong before b.place profile Differs ∷ [])
+    by : (same : Bool) → AreOfRuns (differences_in first profile (count_before + 1) items) →
+        AreOfRuns (if same then differences_in first profile (count_before + 1) items else wrong count_before b.place profile Differs ∷ [])
     by true h = h
     by false h = (tt, tt)
 
 each_are : (each : ℕ → ℕ → List ItemRun → List Wrong) →
-    ((profile before : ℕ) (items : List ItemRun) → AreOfRuns (each profile before items)) → (profile : ℕ) (runs : List (List ItemRun)) →
+    ((profile count_before : ℕ) (items : List ItemRun) → AreOfRuns (each profile count_before items)) →
+    (profile : ℕ) (runs : List (List ItemRun)) →
     AreOfRuns (of_each each profile runs)
 each_are each h profile [] = tt
 each_are each h profile (run ∷ runs) =
@@ -72,7 +75,7 @@ soonest_is (v ∷ ws) h w e = by (soonest ws) (soonest_is ws h.1) e
 
     by : (o : Option Wrong) → ((u : Wrong) → o ≡ Some u → IsOfRuns u.reason) → sooner v o ≡ Some w → IsOfRuns w.reason
     by None k e = same_reason v w e h.0
-    by (Some u) k e = either u (nat_le v.before u.before) (k u refl) e
+    by (Some u) k e = either u (nat_le v.count_before u.count_before) (k u refl) e
 
 -- such a verdict comes where nothing is wrong in the runs
 stops_by : (o : Option Wrong) (reading : Reading) (events : List Event) (place : ℕ) (cause : LexCause) →

@@ -10,27 +10,28 @@ use Rattle.preflight.specs.Failing.{GoesOn, GoesThrough}
 use Rattle.preflight.proofs.Soonest.{IsIn}
 
 -- it is the finding of this run, which comes behind so many items
-pub record IsItsFinding (number before : ℕ) (items : List ItemRun) (w : Wrong) : Type 0 where
+pub record IsItsFinding (number count_before : ℕ) (items : List ItemRun) (w : Wrong) : Type 0 where
   pub count : ℕ
-  pub before_is : w.before ≡ before + count
+  pub before_is : w.count_before ≡ count_before + count
   pub finding : Finding
   pub number_is : w.profile ≡ number
   pub reason_is : w.reason ≡ FindingOfRun finding
   pub there : FindsBehind count w.place finding items
 
-found : (number before : ℕ) (x : ItemRun) (items : List ItemRun) (w : Wrong) (o : Option Finding) → x.finding ≡ o →
-    (IsIn w (findings_in number (before + 1) items) → IsItsFinding number (before + 1) items w) →
-    IsIn w (found_or number before x.place o (findings_in number (before + 1) items)) → IsItsFinding number before (x ∷ items) w
-found number before x items w (Some finding) is rest (inl e) = record {
+found : (number count_before : ℕ) (x : ItemRun) (items : List ItemRun) (w : Wrong) (o : Option Finding) → x.finding ≡ o →
+    (IsIn w (findings_in number (count_before + 1) items) → IsItsFinding number (count_before + 1) items w) →
+    IsIn w (found_or number count_before x.place o (findings_in number (count_before + 1) items)) →
+    IsItsFinding number count_before (x ∷ items) w
+found number count_before x items w (Some finding) is rest (inl e) = record {
   count = zero;
-  before_is = omega (arith, ap (λ (v : Wrong). v.before) e);
+  before_is = omega (arith, ap (λ (v : Wrong). v.count_before) e);
   finding = finding;
   number_is = sym (ap (λ (v : Wrong). v.profile) e);
   reason_is = sym (ap (λ (v : Wrong). v.reason) e);
   there = (is, ap (λ (v : Wrong). v.place) e);
 }
-found number before x items w (Some finding) is rest (inr nothing) = absurd nothing
-found number before x items w None is rest h =
+found number count_before x items w (Some finding) is rest (inr nothing) = absurd nothing
+found number count_before x items w None is rest h =
     let f = rest h in
     record {
       count = suc f.count;
@@ -41,10 +42,11 @@ found number before x items w None is rest h =
       there = (is, f.there);
     }
 
-pub its_finding : (number before : ℕ) (items : List ItemRun) (w : Wrong) → IsIn w (findings_in number before items) →
-    IsItsFinding number before items w
-its_finding number before [] w h = absurd h
-its_finding number before (x ∷ items) w h = found number before x items w x.finding refl (its_finding number (before + 1) items w) h
+pub its_finding : (number count_before : ℕ) (items : List ItemRun) (w : Wrong) → IsIn w (findings_in number count_before items) →
+    IsItsFinding number count_before items w
+its_finding number count_before [] w h = absurd h
+its_finding number count_before (x ∷ items) w h = found number count_before x items w x.finding refl
+    (its_finding number (count_before + 1) items w) h
 
 pub finding_behind : (n place : ℕ) (f : Finding) (items : List ItemRun) → FindsBehind n place f items → finding_of items ≡ Some (place, f)
 finding_behind n place f [] h = absurd h

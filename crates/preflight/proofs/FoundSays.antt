@@ -68,14 +68,14 @@ module _ (anywhere : (printer : Printer) (reading : Reading) → IsWatchedAlike 
   abbrev differing : List Wrong
   differing = of_each differs 1 (runs_of fleet reading)
 
-  abbrev its : IsItsFinding (1 + length of.before) 0 (watched_items of.printer reading) w
-  its = its_finding (1 + length of.before) 0 (watched_items of.printer reading) w of.is_in
+  abbrev its : IsItsFinding (1 + length of.printers_before) 0 (watched_items of.printer reading) w
+  its = its_finding (1 + length of.printers_before) 0 (watched_items of.printer reading) w of.is_in
 
   -- nothing is found sooner, and no printer differs sooner
-  found_no_sooner : (v : Wrong) → IsIn v found → its.count ≤ v.before
+  found_no_sooner : (v : Wrong) → IsIn v found → its.count ≤ v.count_before
   found_no_sooner v has = omega (arith, its.before_is, least w v (found ++ differing) soon (in_left v found differing has))
 
-  differs_no_sooner : (v : Wrong) → IsIn v differing → its.count ≤ v.before
+  differs_no_sooner : (v : Wrong) → IsIn v differing → its.count ≤ v.count_before
   differs_no_sooner v has = omega (arith, its.before_is, least w v (found ++ differing) soon (in_right v found differing has))
 
   all_found : AllByRecursion (IsCounted findings_in found reading) fleet
@@ -93,27 +93,27 @@ module _ (anywhere : (printer : Printer) (reading : Reading) → IsWatchedAlike 
 
   counted_at : (number : ℕ) (each : Printer) → IsNumbered fleet number each → IsCounted findings_in found reading each
   counted_at number each at =
-      all_split (IsCounted findings_in found reading) at.before each at.after
+      all_split (IsCounted findings_in found reading) at.printers_before each at.after
       (subst (AllByRecursion (IsCounted findings_in found reading)) at.fleet_is all_found)
 
   first_has_more : (n at : ℕ) → HasItem n at (watched_items of.printer reading) → n < its.count → HasMore n first_items
-  first_has_more n at has less = by of.before refl
+  first_has_more n at has less = by of.printers_before refl
     where
       through : (each : Printer) → IsNumbered fleet 1 each → HasMore n first_items
       through each first =
           subst (HasMore n) (sym (first_is fleet reading each first))
           (more_through n at (watched_items each reading) (goes_there each (counted_at 1 each first) n at has less))
 
-      by : (before : List Printer) → of.before ≡ before → HasMore n first_items
+      by : (printers_before : List Printer) → of.printers_before ≡ before → HasMore n first_items
       by [] is = through of.printer record {
-        before = [];
+        printers_before = [];
         after = of.after;
         fleet_is = of.fleet_is ∙ ap (λ front. front ++ of.printer ∷ of.after) is;
         number_is = omega arith;
       }
-      by (x ∷ before) is = through x record {
-        before = [];
-        after = before ++ of.printer ∷ of.after;
+      by (x ∷ printers_before) is = through x record {
+        printers_before = [];
+        after = printers_before ++ of.printer ∷ of.after;
         fleet_is = of.fleet_is ∙ ap (λ front. front ++ of.printer ∷ of.after) is;
         number_is = omega arith;
       }
@@ -164,7 +164,8 @@ module _ (anywhere : (printer : Printer) (reading : Reading) → IsWatchedAlike 
       BothGoThrough its.count w.place each panel reading
   lower_through each lower at less panel allowed =
       let later =
-      later_with_lower findings_in (λ n before items v h. (its_finding n before items v h).number_is) reading fleet w [] differing
+      later_with_lower findings_in (λ n count_before items v h. (its_finding n count_before items v h).number_is) reading
+      fleet w [] differing
       (λ h. h) soon each lower at less in
       let goes =
       comes_through each of.printer reading lower its.count w.place
@@ -192,8 +193,13 @@ module _ (anywhere : (printer : Printer) (reading : Reading) → IsWatchedAlike 
   pub found_says : FailSays fleet reading w.place w.profile w.reason
   found_says = subst (FailSays fleet reading w.place w.profile) (sym its.reason_is) record {
     printer = of.printer;
-    is_numbered = record { before = of.before; after = of.after; fleet_is = of.fleet_is; number_is = omega (arith, its.number_is) };
-    before = its.count;
+    is_numbered = record {
+      printers_before = of.printers_before;
+      after = of.after;
+      fleet_is = of.fleet_is;
+      number_is = omega (arith, its.number_is);
+    };
+    count_before = its.count;
     comes = λ each has panel allowed. (each_alike each has panel allowed).0;
     shared = events_before its.count first_items;
     alike = λ each has panel allowed. (each_alike each has panel allowed).1;

@@ -9,11 +9,11 @@ use Rattle.streams.specs.Pieces.{ByReads, Spell}
 use Rattle.streams.specs.Source.{SourceState}
 use Rattle.preflight.specs.Session.{SessionState, ChecksOn, HasChecked, IsJudged, IsOutOfMemory, page_told}
 use Rattle.preflight.specs.Verdict.{IsExact, VerdictHolds, NeedsEachRead, StaysOpen, WasOpen}
-use Rattle.preflight.specs.Culprit.{IsTold}
+use Rattle.preflight.specs.FailingItem.{IsTold}
 use Rattle.preflight.specs.Stood.{IsCursorOf, IsFontOf, IsOfSession, IsSpotOf, LacksFont}
 use Rattle.preflight.specs.Where.{IsOnPage}
-use Rattle.preflight.specs.declared.culprit.MissingFont.{MissingFont}
-use Rattle.preflight.specs.declared.culprit.SheetSpot.{SheetSpot}
+use Rattle.preflight.specs.declared.failing_item.MissingFont.{MissingFont}
+use Rattle.preflight.specs.declared.failing_item.SheetSpot.{SheetSpot}
 use Rattle.streams.specs.Driving.{IsAnswered, IsStopped, StopsBy}
 use Rattle.streams.proofs.Pieces.{known_by}
 use Rattle.streams.proofs.Driving.{never_items as none_of_limits, of_error, of_read, stop_gives}
@@ -51,7 +51,7 @@ module _ (fleet : List Printer) (session now : Beside) (fresh : HasChecked fleet
     where
       by : (verdict : Verdict) → Answer verdict → ByReads old new (λ job. IsExact fleet job verdict)
       by verdict is = record {
-        pieces = is.before ++ is.last ∷ [];
+        pieces = is.pieces_before ++ is.last ∷ [];
         given = is.given_is;
         each = λ job may. (is.answered.right fleet [] fresh job may).0;
         known = is.known;
@@ -62,66 +62,66 @@ module _ (fleet : List Printer) (session now : Beside) (fresh : HasChecked fleet
     where
       by : (verdict : Verdict) → Answer verdict → ByReads old new (λ job. VerdictHolds fleet job verdict)
       by verdict is = record {
-        pieces = is.before ++ is.last ∷ [];
+        pieces = is.pieces_before ++ is.last ∷ [];
         given = is.given_is;
         each = λ job may. (is.answered.right fleet [] fresh job may).1;
         known = is.known;
       }
 
-  pub told : IfOk r (λ verdict. ByReads old new (λ job. IsTold job verdict now.0.culprit))
-  told = IfOk-weaker r Answer (λ verdict. ByReads old new (λ job. IsTold job verdict now.0.culprit)) by h
+  pub told : IfOk r (λ verdict. ByReads old new (λ job. IsTold job verdict now.0.failing_item))
+  told = IfOk-weaker r Answer (λ verdict. ByReads old new (λ job. IsTold job verdict now.0.failing_item)) by h
     where
-      by : (verdict : Verdict) → Answer verdict → ByReads old new (λ job. IsTold job verdict now.0.culprit)
+      by : (verdict : Verdict) → Answer verdict → ByReads old new (λ job. IsTold job verdict now.0.failing_item)
       by verdict is = record {
-        pieces = is.before ++ is.last ∷ [];
+        pieces = is.pieces_before ++ is.last ∷ [];
         given = is.given_is;
         each = λ job may. (is.answered.right fleet [] fresh job may).2;
         known = is.known;
       }
 
   pub paged : IfOk r
-      (λ verdict. ByReads old new (λ job. IsOnPage fleet job verdict (page_told now.0.standing now.0.counts)))
+      (λ verdict. ByReads old new (λ job. IsOnPage fleet job verdict (page_told now.0.state now.0.counts)))
   paged =
       IfOk-weaker r Answer
-      (λ verdict. ByReads old new (λ job. IsOnPage fleet job verdict (page_told now.0.standing now.0.counts))) by h
+      (λ verdict. ByReads old new (λ job. IsOnPage fleet job verdict (page_told now.0.state now.0.counts))) by h
     where
       by : (verdict : Verdict) → Answer verdict →
-          ByReads old new (λ job. IsOnPage fleet job verdict (page_told now.0.standing now.0.counts))
+          ByReads old new (λ job. IsOnPage fleet job verdict (page_told now.0.state now.0.counts))
       by verdict is = record {
-        pieces = is.before ++ is.last ∷ [];
+        pieces = is.pieces_before ++ is.last ∷ [];
         given = is.given_is;
         each =
-            λ job may. subst (λ s. IsOnPage fleet job verdict (page_told s now.0.counts)) (sym is.answered.standing_is)
+            λ job may. subst (λ s. IsOnPage fleet job verdict (page_told s now.0.counts)) (sym is.answered.state_is)
             (is.answered.right fleet [] fresh job may).3;
         known = is.known;
       }
 
-  pub placed : (told : Option SheetSpot) → IsOfSession IsSpotOf now.0.standing now.0.culprit now.0.machines told →
+  pub placed : (told : Option SheetSpot) → IsOfSession IsSpotOf now.0.state now.0.failing_item now.0.machines told →
       IfOk r (λ verdict. ByReads old new (λ job. IsCursorOf fleet job verdict told))
   placed told is_told = IfOk-weaker r Answer (λ verdict. ByReads old new (λ job. IsCursorOf fleet job verdict told)) by h
     where
       by : (verdict : Verdict) → Answer verdict → ByReads old new (λ job. IsCursorOf fleet job verdict told)
       by verdict is = record {
-        pieces = is.before ++ is.last ∷ [];
+        pieces = is.pieces_before ++ is.last ∷ [];
         given = is.given_is;
         each =
-            λ job may. cursor_right fleet job verdict now.0.culprit now.0.machines told
-            (judged_told IsSpotOf now.0.culprit now.0.machines told now.0.standing verdict is.answered.standing_is is_told)
+            λ job may. cursor_right fleet job verdict now.0.failing_item now.0.machines told
+            (judged_told IsSpotOf now.0.failing_item now.0.machines told now.0.state verdict is.answered.state_is is_told)
             (is.answered.right fleet [] fresh job may).4;
         known = is.known;
       }
 
-  pub asked : (told : Option MissingFont) → IsOfSession LacksFont now.0.standing now.0.culprit now.0.machines told →
+  pub asked : (told : Option MissingFont) → IsOfSession LacksFont now.0.state now.0.failing_item now.0.machines told →
       IfOk r (λ verdict. ByReads old new (λ job. IsFontOf fleet job verdict told))
   asked told is_told = IfOk-weaker r Answer (λ verdict. ByReads old new (λ job. IsFontOf fleet job verdict told)) by h
     where
       by : (verdict : Verdict) → Answer verdict → ByReads old new (λ job. IsFontOf fleet job verdict told)
       by verdict is = record {
-        pieces = is.before ++ is.last ∷ [];
+        pieces = is.pieces_before ++ is.last ∷ [];
         given = is.given_is;
         each =
-            λ job may. font_right fleet job verdict now.0.culprit now.0.machines told
-            (judged_told LacksFont now.0.culprit now.0.machines told now.0.standing verdict is.answered.standing_is is_told)
+            λ job may. font_right fleet job verdict now.0.failing_item now.0.machines told
+            (judged_told LacksFont now.0.failing_item now.0.machines told now.0.state verdict is.answered.state_is is_told)
             (is.answered.right fleet [] fresh job may).4;
         known = is.known;
       }
@@ -134,12 +134,13 @@ module _ (fleet : List Printer) (session now : Beside) (fresh : HasChecked fleet
           let goes = is.left_open in
           let executed = opened is.between.0 fleet is.bytes goes.is_open (goes.checked fleet [] fresh) in
           record {
-            before = is.before;
+            pieces_before = is.pieces_before;
             last = is.last;
             given = is.given_is;
             short = is.short;
             left_open =
-                leaves_open fleet is.bytes is.between.0.lexer is.between.0.machines is.between.0.counts executed.0 goes.open_input is.before
+                leaves_open fleet is.bytes is.between.0.lexer is.between.0.machines is.between.0.counts executed.0 goes.open_input
+                is.pieces_before
                 is.spelled goes.wants_more;
           }
 
@@ -168,11 +169,12 @@ module _ (fleet : List Printer) (session now : Beside) (fresh : HasChecked fleet
       let was = h.was_open in
       let goes : ChecksOn session.0 was.bytes was.between.0 = was.left_open in
       let executed = opened was.between.0 fleet was.bytes goes.is_open (goes.checked fleet [] fresh) in (
-        was.before,
+        was.pieces_before,
         was.last,
         h.given_is ∙ ap (λ (pieces : List (List ℕ)). old.given ++ pieces) was.split,
         was.at_most_one,
-        leaves_open fleet was.bytes was.between.0.lexer was.between.0.machines was.between.0.counts executed.0 goes.open_input was.before
+        leaves_open fleet was.bytes was.between.0.lexer was.between.0.machines was.between.0.counts executed.0 goes.open_input
+            was.pieces_before
             was.spelled goes.wants_more,
       )
 

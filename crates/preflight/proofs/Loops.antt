@@ -12,26 +12,26 @@ use Rattle.pcl_lexer.specs.Lexing.Meaning.{IsNext}
 use Rattle.device_profile.specs.Printer.{Printer}
 use Rattle.page_machine.specs.Laws.{IsWatchedAlike}
 use Rattle.preflight.specs.declared.checking.Checking.{Checking}
-use Rattle.preflight.specs.declared.standing.Standing.TheVariants.{Open}
-use Rattle.preflight.specs.Culprit.{Names}
-use Rattle.preflight.specs.Standing.{StandsBy, is_open}
+use Rattle.preflight.specs.declared.check_state.CheckState.TheVariants.{Open}
+use Rattle.preflight.specs.FailingItem.{Names}
+use Rattle.preflight.specs.CheckState.{StandsBy, is_open}
 use Rattle.preflight.specs.Carriers.Lockstep.{Fleet, machines_of, counts_of, Execute, GoesInStep}
 use Rattle.preflight.specs.Carriers.Checking.{ExecutesThrough}
 use Rattle.preflight.specs.Carriers.Loops.{MayExecute, IsFurther, ExecutesOn, ExecutesDecided}
 use Rattle.preflight.proofs.Answered.{came_closed, comes_on, further as further_by_item, further_by_text, further_here, not_further}
 use Rattle.preflight.proofs.Answered.{stands_behind, through_here, through_open}
-use Rattle.preflight.proofs.Standings.{closed_on, open_by, open_is}
+use Rattle.preflight.proofs.CheckStates.{closed_on, open_by, open_is}
 
 -- all that was executed between the one and the other went, and no item is told
-pub record GoesOn {A P : Type 0} (first now : Checking A P) : Type 0 where
-  pub stands : now.standing ≡ Open
-  pub untold : now.culprit ≡ first.culprit
+pub record CheckGoesOn {A P : Type 0} (first now : Checking A P) : Type 0 where
+  pub stands : now.state ≡ Open
+  pub untold : now.failing_item ≡ first.failing_item
   pub further : IsFurther first.lexer now.lexer
   pub through : ExecutesThrough first.lexer now.lexer (machines_of first.machines) (machines_of now.machines) (counts_of first.machines)
       (counts_of now.machines)
 
 module _ {A P : Type 0} (first : Checking A P) where
-  pub goes_none : MayExecute first → GoesOn first first
+  pub goes_none : MayExecute first → CheckGoesOn first first
   goes_none may = record {
     stands = may.stands;
     untold = refl;
@@ -40,12 +40,12 @@ module _ {A P : Type 0} (first : Checking A P) where
   }
 
   -- so more may be executed
-  pub may_again : (now : Checking A P) → GoesOn first now → MayExecute now
+  pub may_again : (now : Checking A P) → CheckGoesOn first now → MayExecute now
   may_again now goes = record { running = goes.through.running; modes = goes.through.modes; stands = goes.stands }
 
   -- the lexer gave nothing
-  pub goes_here : (mid : Checking A P) (lexer : LexerState) → lexer ≡ mid.lexer → GoesOn first mid →
-      GoesOn first (record mid { lexer = lexer })
+  pub goes_here : (mid : Checking A P) (lexer : LexerState) → lexer ≡ mid.lexer → CheckGoesOn first mid →
+      CheckGoesOn first (record mid { lexer = lexer })
   goes_here mid lexer same goes = record {
     stands = goes.stands;
     untold = goes.untold;
@@ -54,8 +54,8 @@ module _ {A P : Type 0} (first : Checking A P) where
   }
 
   -- the machines were not moved
-  pub goes_unmoved : (mid : Checking A P) (machines : Fleet) → machines ≡ mid.machines → GoesOn first mid →
-      GoesOn first (record mid { machines = machines })
+  pub goes_unmoved : (mid : Checking A P) (machines : Fleet) → machines ≡ mid.machines → CheckGoesOn first mid →
+      CheckGoesOn first (record mid { machines = machines })
   goes_unmoved mid machines same goes = record {
     stands = goes.stands;
     untold = goes.untold;
@@ -67,7 +67,7 @@ module _ {A P : Type 0} (first : Checking A P) where
 
   module _ (new : Checking A P) where
     -- nothing more stands next
-    pub on_open : GoesOn first new → ExecutesOn first new true
+    pub on_open : CheckGoesOn first new → ExecutesOn first new true
     on_open goes = record {
       came = open_by _ _ goes.stands goes.through;
       tells = sym (ap is_open goes.stands);
@@ -80,7 +80,7 @@ module _ {A P : Type 0} (first : Checking A P) where
       answered other same = subst (ExecutesOn first new) same
 
       -- the check is still open
-      pub goes_open : answer ≡ true → ExecutesOn first new answer → GoesOn first new
+      pub goes_open : answer ≡ true → ExecutesOn first new answer → CheckGoesOn first new
       goes_open is ran =
           let still = sym ran.tells ∙ is in
           record {
@@ -104,7 +104,7 @@ module _ {A P : Type 0} (first : Checking A P) where
           }
 
       -- a loop behind what went
-      pub on_behind : (mid : Checking A P) → GoesOn first mid → ExecutesOn mid new answer → ExecutesOn first new answer
+      pub on_behind : (mid : Checking A P) → CheckGoesOn first mid → ExecutesOn mid new answer → ExecutesOn first new answer
       on_behind mid goes ran = record {
         came = stands_behind _ _ _ _ _ _ _ _ _ _ _ goes.through goes.further.ended ran.came;
         tells = ran.tells;
@@ -112,15 +112,16 @@ module _ {A P : Type 0} (first : Checking A P) where
         further = further_by_text _ _ _ _ refl goes.further ran.further;
       }
 
-      pub goes_behind : (mid : Checking A P) → GoesOn first mid → answer ≡ true → ExecutesOn mid new answer → GoesOn first new
+      pub goes_behind : (mid : Checking A P) → CheckGoesOn first mid → answer ≡ true → ExecutesOn mid new answer → CheckGoesOn first new
       goes_behind mid goes is ran = goes_open is (on_behind mid goes ran)
 
       -- an item behind what went
       pub item_behind : (mid : Checking A P) → ((job : List ℕ) → HasOneReading job) →
           ((printer : Printer) (reading : Reading) → IsWatchedAlike printer reading) → (next : Result Lexed LexFault) (place : ℕ)
-          (item : Item) → next ≡ Ok (answers.Item place item) → GoesOn first mid → IsNext mid.lexer next new.lexer
-          → answer ≡ is_open new.standing → (IsFalse answer → Names new.culprit (view item)) → (IsTrue answer → new.culprit ≡ mid.culprit)
-          → StandsBy new.standing (λ failed.
+          (item : Item) → next ≡ Ok (answers.Item place item) → CheckGoesOn first mid → IsNext mid.lexer next new.lexer
+          → answer ≡ is_open new.state → (IsFalse answer → Names new.failing_item (view item)) →
+          (IsTrue answer → new.failing_item ≡ mid.failing_item)
+          → StandsBy new.state (λ failed.
           GoesInStep (Execute (view item)) place (machines_of mid.machines) (machines_of new.machines) (counts_of mid.machines)
           (counts_of new.machines) failed)
           → ExecutesOn first new answer

@@ -15,11 +15,11 @@ use Rattle.preflight.proofs.Found.{its_finding}
 
 -- it is one of those of the run of the printer of this number, of printers that are counted from a number on
 pub record IsOf (each : ℕ → ℕ → List ItemRun → List Wrong) (reading : Reading) (from : ℕ) (fleet : List Printer) (w : Wrong) : Type 0 where
-  pub before : List Printer
+  pub printers_before : List Printer
   pub printer : Printer
   pub after : List Printer
-  pub fleet_is : fleet ≡ before ++ printer ∷ after
-  pub is_in : IsIn w (each (from + length before) 0 (watched_items printer reading))
+  pub fleet_is : fleet ≡ printers_before ++ printer ∷ after
+  pub is_in : IsIn w (each (from + length printers_before) 0 (watched_items printer reading))
 
 pub of_printer : (each : ℕ → ℕ → List ItemRun → List Wrong) (reading : Reading) (from : ℕ) (fleet : List Printer) (w : Wrong) →
     IsIn w (of_each each from (runs_of fleet reading)) → IsOf each reading from fleet w
@@ -27,7 +27,7 @@ of_printer each reading from [] w h = absurd h
 of_printer each reading from (p ∷ ps) w h =
     elim (in_either w (each from 0 (watched_items p reading)) (of_each each (from + 1) (runs_of ps reading)) h) [
       | inl here ↦ record {
-        before = [];
+        printers_before = [];
         printer = p;
         after = ps;
         fleet_is = refl;
@@ -36,7 +36,7 @@ of_printer each reading from (p ∷ ps) w h =
       | inr there ↦
           let rest = of_printer each reading (from + 1) ps w there in
           record {
-            before = p ∷ rest.before;
+            printers_before = p ∷ rest.printers_before;
             printer = rest.printer;
             after = rest.after;
             fleet_is = ap (λ qs. p ∷ qs) rest.fleet_is;
@@ -51,7 +51,7 @@ pub none_differs : (reading : Reading) (fleet : List Printer) (w : Wrong) → Is
     w.reason ≡ Differs → ⊥
 none_differs reading fleet w h differs =
     let of = of_printer findings_in reading 1 fleet w h in
-    let its = its_finding (1 + length of.before) 0 (watched_items of.printer reading) w of.is_in in
+    let its = its_finding (1 + length of.printers_before) 0 (watched_items of.printer reading) w of.is_in in
     let e : FindingOfRun its.finding ≡ Differs = sym its.reason_is ∙ differs in
     cc
 
@@ -80,29 +80,31 @@ of_each_append each reading from (x ∷ xs) ys =
     ∙ (sym (append_assoc own more (of_each each (from + 1 + length xs) (runs_of ys reading)))
     ∙ ap (λ n. (own ++ more) ++ of_each each n (runs_of ys reading)) count)
 
-pub all_split : {X : Type 0} (P : X → Type 0) (before : List X) (x : X) (after : List X) → AllByRecursion P (before ++ x ∷ after) → P x
+pub all_split : {X : Type 0} (P : X → Type 0) (printers_before : List X) (x : X) (after : List X) →
+    AllByRecursion P (printers_before ++ x ∷ after) → P x
 all_split P [] x after h = h.0
-all_split P (y ∷ before) x after h = all_split P before x after h.1
+all_split P (y ∷ printers_before) x after h = all_split P printers_before x after h.1
 
 pub first_is : (fleet : List Printer) (reading : Reading) (first : Printer) → IsNumbered fleet 1 first →
     first_run (runs_of fleet reading) ≡ watched_items first reading
-first_is fleet reading first at = by at.before at.fleet_is at.number_is
+first_is fleet reading first at = by at.printers_before at.fleet_is at.number_is
   where
-    by : (before : List Printer) → fleet ≡ before ++ first ∷ at.after → 1 ≡ length before + 1 →
+    by : (printers_before : List Printer) → fleet ≡ printers_before ++ first ∷ at.after → 1 ≡ length printers_before + 1 →
         first_run (runs_of fleet reading) ≡ watched_items first reading
     by [] fleet_is number_is = ap (λ printers. first_run (runs_of printers reading)) fleet_is
-    by (x ∷ before) fleet_is number_is = absurd (omega (arith, number_is))
+    by (x ∷ printers_before) fleet_is number_is = absurd (omega (arith, number_is))
 
 -- ---- printers of lower numbers
 
 -- what is wrong with one of these comes later than what is wrong first with another, by a list in which each has its number
 module _ (each : ℕ → ℕ → List ItemRun → List Wrong)
-    (has_number : (number before : ℕ) (items : List ItemRun) (w : Wrong) → IsIn w (each number before items) → w.profile ≡ number)
+    (has_number : (number count_before : ℕ) (items : List ItemRun) (w : Wrong) → IsIn w (each number count_before items) →
+    w.profile ≡ number)
     (reading : Reading) (fleet : List Printer) (w : Wrong) (ahead behind : List Wrong) (not_ahead : IsIn w ahead → ⊥)
     (soon : soonest (ahead ++ (of_each each 1 (runs_of fleet reading) ++ behind)) ≡ Some w) (printer : Printer) (number : ℕ)
     (at : IsNumbered fleet number printer) (less : number < w.profile) where
   abbrev lower : List Printer
-  lower = at.before ++ printer ∷ []
+  lower = at.printers_before ++ printer ∷ []
 
   abbrev of_lower : List Wrong
   of_lower = of_each each 1 (runs_of lower reading)
@@ -112,7 +114,7 @@ module _ (each : ℕ → ℕ → List ItemRun → List Wrong)
 
   soon_split : soonest ((ahead ++ of_lower) ++ (of_others ++ behind)) ≡ Some w
   soon_split =
-      let fleet_is : fleet ≡ lower ++ at.after = at.fleet_is ∙ sym (append_assoc at.before (printer ∷ []) at.after) in
+      let fleet_is : fleet ≡ lower ++ at.after = at.fleet_is ∙ sym (append_assoc at.printers_before (printer ∷ []) at.after) in
       let split : of_each each 1 (runs_of fleet reading) ≡ of_lower ++ of_others =
       ap (λ printers. of_each each 1 (runs_of printers reading)) fleet_is ∙ of_each_append each reading 1 lower at.after in
       ap soonest
@@ -124,24 +126,25 @@ module _ (each : ℕ → ℕ → List ItemRun → List Wrong)
   none_of_lower : IsIn w of_lower → ⊥
   none_of_lower has =
       let one = of_printer each reading 1 lower w has in
-      let number_is : w.profile ≡ 1 + length one.before =
-      has_number (1 + length one.before) 0 (watched_items one.printer reading) w one.is_in in
-      let lengths : length at.before + 1 ≡ length one.before + suc (length one.after) =
-      sym (length-append at.before (printer ∷ [])) ∙ (ap length one.fleet_is ∙ length-append one.before (one.printer ∷ one.after)) in
+      let number_is : w.profile ≡ 1 + length one.printers_before =
+      has_number (1 + length one.printers_before) 0 (watched_items one.printer reading) w one.is_in in
+      let lengths : length at.printers_before + 1 ≡ length one.printers_before + suc (length one.after) =
+      sym (length-append at.printers_before (printer ∷ []))
+      ∙ (ap length one.fleet_is ∙ length-append one.printers_before (one.printer ∷ one.after)) in
       omega (arith, number_is, at.number_is, less, lengths)
 
   its_own : (v : Wrong) → IsIn v (each number 0 (watched_items printer reading)) → IsIn v (ahead ++ of_lower)
   its_own v has =
-      let own : List Wrong = each (1 + length at.before) 0 (watched_items printer reading) in
-      let count : number ≡ 1 + length at.before = omega (arith, at.number_is) in
+      let own : List Wrong = each (1 + length at.printers_before) 0 (watched_items printer reading) in
+      let count : number ≡ 1 + length at.printers_before = omega (arith, at.number_is) in
       let here : IsIn v (own ++ []) = in_left v own [] (subst (λ n. IsIn v (each n 0 (watched_items printer reading))) count has) in
       in_right v ahead of_lower
-      (subst (IsIn v) (sym (of_each_append each reading 1 at.before (printer ∷ [])))
-      (in_right v (of_each each 1 (runs_of at.before reading)) (own ++ []) here))
+      (subst (IsIn v) (sym (of_each_append each reading 1 at.printers_before (printer ∷ [])))
+      (in_right v (of_each each 1 (runs_of at.printers_before reading)) (own ++ []) here))
 
-  pub later_with_lower : (v : Wrong) → IsIn v (each number 0 (watched_items printer reading)) → w.before < v.before
+  pub later_with_lower : (v : Wrong) → IsIn v (each number 0 (watched_items printer reading)) → w.count_before < v.count_before
   later_with_lower v has =
-      elim (cases_lt w.before v.before) [
+      elim (cases_lt w.count_before v.count_before) [
         | inl later ↦ later
         | inr sooner ↦ elim
             (in_either w ahead of_lower (in_front w v (ahead ++ of_lower) (of_others ++ behind) soon_split (its_own v has) sooner)) [

@@ -34,11 +34,11 @@ use Rattle.preflight.proofs.WrongFirst.{Comes, wrong_first}
 -- the printer whose machine has the finding, of printers that are counted from a number on
 record Finder (items : List Placed) (done : List ItemRun) (action : Action) (finding : Finding) (pages pages' number n : ℕ)
     (fleet : List Printer) : Type 0 where
-  before : List Printer
+  printers_before : List Printer
   printer : Printer
   after : List Printer
-  fleet_is : fleet ≡ before ++ printer ∷ after
-  number_is : number ≡ length before + n
+  fleet_is : fleet ≡ printers_before ++ printer ∷ after
+  number_is : number ≡ length printers_before + n
   machine : MachineState
   along : Along items done printer machine
   finds : Finds action finding machine
@@ -51,7 +51,7 @@ module _ (items : List Placed) (done : List ItemRun) (action : Action) (finding 
   finder n [] (m ∷ ms) along h = absurd along
   finder n (p ∷ ps) [] along h = absurd h
   finder n (p ∷ ps) (m ∷ ms) along (inl h) = record {
-    before = [];
+    printers_before = [];
     printer = p;
     after = ps;
     fleet_is = refl;
@@ -64,7 +64,7 @@ module _ (items : List Placed) (done : List ItemRun) (action : Action) (finding 
   finder n (p ∷ ps) (m ∷ ms) along (inr h) =
       let rest = finder (n + 1) ps ms along.1 h in
       record {
-        before = p ∷ rest.before;
+        printers_before = p ∷ rest.printers_before;
         printer = rest.printer;
         after = rest.after;
         fleet_is = ap (λ (qs : List Printer). p ∷ qs) rest.fleet_is;
@@ -126,7 +126,7 @@ module _ (fleet : List Printer) (bytes : List ℕ) (lexer : LexerState) (machine
             let its =
             finder executed.items executed.done action finding counts.pages counts'.pages number 1 fleet machines executed.along h in (
               its.printer,
-              record { before = its.before; after = its.after; fleet_is = its.fleet_is; number_is = its.number_is },
+              record { printers_before = its.printers_before; after = its.after; fleet_is = its.fleet_is; number_is = its.number_is },
               λ panel allowed.
                   page_open (events_of executed.done) its.finds.events counts counts'.pages executed.counts_are its.pages_are
                   ∙ ap page_behind (sym (ends finding its.printer its.machine its.along panel allowed its.finds)),

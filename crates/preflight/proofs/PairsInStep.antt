@@ -8,16 +8,17 @@ use Rattle.page_machine.specs.Event.{Event, Marked}
 use Rattle.page_machine.specs.Likeness.{RunsOnLike}
 use Rattle.page_machine.specs.MachineState.{MachineState}
 use Rattle.page_machine.specs.PenLines.{DrawsPair}
-use Rattle.preflight.specs.declared.lockstep.Formation.{Formation}
-use Rattle.preflight.specs.declared.lockstep.Formation.TheVariants.{Alone, Together, Apart}
+use Rattle.preflight.specs.declared.lockstep.FleetMode.{FleetMode}
+use Rattle.preflight.specs.declared.lockstep.FleetMode.TheVariants.{Alone, Together, Apart}
 use Rattle.preflight.specs.Carriers.Each.{Each}
-use Rattle.preflight.specs.Carriers.Formation.{others_in, IsFormed, AskAlike, GoesAsOne}
+use Rattle.preflight.specs.Carriers.FleetMode.{others_in, IsFormed, AskAlike, GoesAsOne}
 use Rattle.preflight.specs.Carriers.Lockstep.{Execute, Does}
-use Rattle.preflight.proofs.Formations.{all_do}
+use Rattle.preflight.proofs.FleetModes.{all_do}
 
-module _ (law : (item : Entry) → RunsOnLike item) (box : PenBounds) (motion : Motion) (to : ℤ × ℤ) (formation : Formation)
+module _ (law : (item : Entry) → RunsOnLike item) (box : PenBounds) (motion : Motion) (to : ℤ × ℤ) (fleet_mode : FleetMode)
     (first first' : MachineState) (others : List MachineState)
-    (running : first.stopped ≡ false) (formed : IsFormed formation first others) (together : (formation ≡ Alone) ⊎ (formation ≡ Together))
+    (running : first.stopped ≡ false) (formed : IsFormed fleet_mode first others)
+    (together : (fleet_mode ≡ Alone) ⊎ (fleet_mode ≡ Together))
     (bare : first.page.env.job.overlay ≡ None) (draws : DrawsPair box motion to first first') where
   abbrev item : Entry
   item = Move motion (Some to)
@@ -36,11 +37,11 @@ module _ (law : (item : Entry) → RunsOnLike item) (box : PenBounds) (motion : 
   asks_nothing [] = tt
   asks_nothing (m ∷ ms) = (refl, asks_nothing ms)
 
-  as_one : (f : Formation) → (f ≡ Alone) ⊎ (f ≡ Together) → GoesAsOne f first others item
+  as_one : (f : FleetMode) → (f ≡ Alone) ⊎ (f ≡ Together) → GoesAsOne f first others item
   as_one Alone h = tt
   as_one Together h = (bare, asks_nothing others)
   as_one Apart (inl e) = absurd cc
   as_one Apart (inr e) = absurd cc
 
-  pub all_draw : Each (Does (Execute item) events) (first ∷ others_in formation first others) (first' ∷ others_in formation first' others)
-  all_draw = all_do law item events first first' first_does formation others formed (as_one formation together)
+  pub all_draw : Each (Does (Execute item) events) (first ∷ others_in fleet_mode first others) (first' ∷ others_in fleet_mode first' others)
+  all_draw = all_do law item events first first' first_does fleet_mode others formed (as_one fleet_mode together)

@@ -22,15 +22,15 @@ use Rattle.verdict.specs.declared.reason.Reason.{Reason}
 use Rattle.verdict.specs.declared.reason.Reason.TheVariants.{Fault, Finding, Differs, Unpinnable}
 use Rattle.verdict.specs.declared.verdict.Verdict.{Verdict}
 use Rattle.verdict.specs.declared.verdict.Verdict.TheVariants.{Pass, Fail}
-use Rattle.preflight.specs.declared.culprit.Culprit.{Culprit}
-use Rattle.preflight.specs.declared.culprit.MissingFont.{MissingFont}
-use Rattle.preflight.specs.declared.culprit.SheetSpot.{SheetSpot}
-use Rattle.preflight.specs.declared.standing.Standing.{Standing}
-use Rattle.preflight.specs.declared.standing.Standing.TheVariants.{Open, Judged, Stopped}
+use Rattle.preflight.specs.declared.failing_item.FailingItem.{FailingItem}
+use Rattle.preflight.specs.declared.failing_item.MissingFont.{MissingFont}
+use Rattle.preflight.specs.declared.failing_item.SheetSpot.{SheetSpot}
+use Rattle.preflight.specs.declared.check_state.CheckState.{CheckState}
+use Rattle.preflight.specs.declared.check_state.CheckState.TheVariants.{Open, Judged, Stopped}
 use Rattle.preflight.specs.Carriers.Checking.{Along, HasExecuted}
 use Rattle.preflight.specs.Carriers.Each.{Each}
 use Rattle.preflight.specs.Carriers.Lockstep.{Action, StopsAt, StopsThere, carrying_of}
-use Rattle.preflight.specs.Culprit.{IsCulprit, Names}
+use Rattle.preflight.specs.FailingItem.{IsFailingItem, Names}
 use Rattle.preflight.specs.Stood.{HoldsStill, IsAskedOf, IsAt, IsCursorOf, IsFinder, IsOfSession, IsOfStopped, IsFontOf}
 use Rattle.preflight.specs.Stood.{IsSpotOf, IsThere, LacksFont, MachineStood}
 use Rattle.preflight.specs.Stood.{StoodBefore, StoppedAt, run_of_items}
@@ -68,11 +68,11 @@ there_at number n (suc i) machine (m ∷ ms) inside is same =
 -- was stopped
 record Stopper (items : List Placed) (done : List ItemRun) (action : Action) (number n : ℕ) (fleet : List Printer)
     (machines' : List MachineState) : Type 0 where
-  before : List Printer
+  printers_before : List Printer
   printer : Printer
   after : List Printer
-  fleet_is : fleet ≡ before ++ printer ∷ after
-  number_is : number ≡ length before + n
+  fleet_is : fleet ≡ printers_before ++ printer ∷ after
+  number_is : number ≡ length printers_before + n
   machine : MachineState
   along : Along items done printer machine
   machine' : MachineState
@@ -88,7 +88,7 @@ module _ (items : List Placed) (done : List ItemRun) (action : Action) (number :
   stopper n (p ∷ ps) [] machines' along h = absurd along
   stopper n (p ∷ ps) (m ∷ ms) [] along h = absurd h
   stopper n (p ∷ ps) (m ∷ ms) (k ∷ ks) along (inl h) = record {
-    before = [];
+    printers_before = [];
     printer = p;
     after = ps;
     fleet_is = refl;
@@ -102,7 +102,7 @@ module _ (items : List Placed) (done : List ItemRun) (action : Action) (number :
   stopper n (p ∷ ps) (m ∷ ms) (k ∷ ks) along (inr h) =
       let rest = stopper (n + 1) ps ms ks along.1 h in
       record {
-        before = p ∷ rest.before;
+        printers_before = p ∷ rest.printers_before;
         printer = rest.printer;
         after = rest.after;
         fleet_is = ap (λ (qs : List Printer). p ∷ qs) rest.fleet_is;
@@ -133,21 +133,26 @@ module _ (fleet : List Printer) (bytes : List ℕ) (lexer : LexerState) (machine
     (executed : HasExecuted fleet bytes lexer machines counts) (job : List ℕ) (reading : Reading) (is_reading : IsReading job reading)
     (action : Action) (x : Placed) (is : IsItem action x.item) (rest : List Placed)
     (items : items_of reading ≡ (executed.items ++ x ∷ []) ++ rest) (machines' : List MachineState) where
-  stood : (number : ℕ) (culprit : Culprit) → Names (Some culprit) x.item → StopsThere action number 1 machines machines' →
+  stood : (number : ℕ) (failing_item : FailingItem) → Names (Some failing_item) x.item → StopsThere action number 1 machines machines' →
       (machine : MachineState) → IsThere number 1 machine machines' →
-      StoodBefore fleet job x.place number (HoldsStill culprit machine)
-  stood number culprit names stopped machine there =
+      StoodBefore fleet job x.place number (HoldsStill failing_item machine)
+  stood number failing_item names stopped machine there =
       let its = stopper executed.items executed.done action number 1 fleet machines machines' executed.along stopped in
       let same : machine ≡ its.machine' = only_there number 1 machine its.machine' machines' there its.there in
       record {
         reading = reading;
         is_reading = is_reading;
-        before = executed.items;
+        items_before = executed.items;
         item = x.item;
         after = rest;
         items_are = items;
         printer = its.printer;
-        is_numbered = record { before = its.before; after = its.after; fleet_is = its.fleet_is; number_is = its.number_is };
+        is_numbered = record {
+          printers_before = its.printers_before;
+          after = its.after;
+          fleet_is = its.fleet_is;
+          number_is = its.number_is;
+        };
         led = λ panel allowed. (
           state_at panel its.machine.page,
           led_there executed.items executed.done its.printer its.machine its.along panel allowed,
@@ -164,13 +169,13 @@ module _ (fleet : List Printer) (bytes : List ℕ) (lexer : LexerState) (machine
       }
 
   -- an item that is wrong for a printer
-  pub item_stood : (number : ℕ) (reason : Reason) (culprit : Option Culprit) → Names culprit x.item →
-      StopsAt action 1 machines machines' number reason → MachineStood fleet job (Fail x.place number reason) culprit machines'
-  item_stood number (Finding finding) (Some culprit) names stopped = stood number culprit names stopped
+  pub item_stood : (number : ℕ) (reason : Reason) (failing_item : Option FailingItem) → Names failing_item x.item →
+      StopsAt action 1 machines machines' number reason → MachineStood fleet job (Fail x.place number reason) failing_item machines'
+  item_stood number (Finding finding) (Some failing_item) names stopped = stood number failing_item names stopped
   item_stood number (Finding finding) None names stopped = tt
-  item_stood number Differs culprit names stopped = tt
-  item_stood number (Fault cause) culprit names stopped = tt
-  item_stood number Unpinnable culprit names stopped = tt
+  item_stood number Differs failing_item names stopped = tt
+  item_stood number (Fault cause) failing_item names stopped = tt
+  item_stood number Unpinnable failing_item names stopped = tt
 
 -- what is wrong at the end of the bytes is at no item
 pub none_stood : (fleet : List Printer) (job : List ℕ) (place number : ℕ) (reason : Reason) (machines : List MachineState) →
@@ -189,7 +194,7 @@ stood_on : (fleet : List Printer) (job : List ℕ) (place number : ℕ) (P Q : E
 stood_on fleet job place number P Q on h = record {
   reading = h.reading;
   is_reading = h.is_reading;
-  before = h.before;
+  items_before = h.items_before;
   item = h.item;
   after = h.after;
   items_are = h.items_are;
@@ -224,34 +229,38 @@ module _ (machine : MachineState) (printer : Printer) (panel : Panel) (s : State
   )
 
 -- where the cursor stood
-pub cursor_right : (fleet : List Printer) (job : List ℕ) (verdict : Verdict) (culprit : Option Culprit) (machines : List MachineState)
-    (told : Option SheetSpot) → IsOfStopped IsSpotOf verdict culprit machines told → MachineStood fleet job verdict culprit machines →
+pub cursor_right : (fleet : List Printer) (job : List ℕ) (verdict : Verdict) (failing_item : Option FailingItem)
+    (machines : List MachineState)
+    (told : Option SheetSpot) → IsOfStopped IsSpotOf verdict failing_item machines told →
+    MachineStood fleet job verdict failing_item machines →
     IsCursorOf fleet job verdict told
-cursor_right fleet job verdict culprit machines None h stands = tt
-cursor_right fleet job (Pass pages marks) culprit machines (Some spot) h stands = absurd h.1
-cursor_right fleet job (Fail place number Differs) culprit machines (Some spot) h stands = absurd h.1
-cursor_right fleet job (Fail place number (Fault cause)) culprit machines (Some spot) h stands = absurd h.1
-cursor_right fleet job (Fail place number Unpinnable) culprit machines (Some spot) h stands = absurd h.1
+cursor_right fleet job verdict failing_item machines None h stands = tt
+cursor_right fleet job (Pass pages marks) failing_item machines (Some spot) h stands = absurd h.1
+cursor_right fleet job (Fail place number Differs) failing_item machines (Some spot) h stands = absurd h.1
+cursor_right fleet job (Fail place number (Fault cause)) failing_item machines (Some spot) h stands = absurd h.1
+cursor_right fleet job (Fail place number Unpinnable) failing_item machines (Some spot) h stands = absurd h.1
 cursor_right fleet job (Fail place number (Finding finding)) None machines (Some spot) h stands = absurd h.1
-cursor_right fleet job (Fail place number (Finding finding)) (Some culprit) machines (Some spot) h stands =
-    stood_on fleet job place number (HoldsStill culprit h.0) (λ item printer panel s. IsAt spot printer s)
+cursor_right fleet job (Fail place number (Finding finding)) (Some failing_item) machines (Some spot) h stands =
+    stood_on fleet job place number (HoldsStill failing_item h.0) (λ item printer panel s. IsAt spot printer s)
     (λ item printer panel s still.
     let put = still.stays (h.1.1 item still.names) in
     spot_there h.0 printer panel s still.printer_is put.0 put.1 spot (h.2 panel))
     (stands h.0 h.1.0)
 
 -- which font was asked for
-pub font_right : (fleet : List Printer) (job : List ℕ) (verdict : Verdict) (culprit : Option Culprit) (machines : List MachineState)
-    (told : Option MissingFont) → IsOfStopped LacksFont verdict culprit machines told → MachineStood fleet job verdict culprit machines →
+pub font_right : (fleet : List Printer) (job : List ℕ) (verdict : Verdict) (failing_item : Option FailingItem)
+    (machines : List MachineState)
+    (told : Option MissingFont) → IsOfStopped LacksFont verdict failing_item machines told →
+    MachineStood fleet job verdict failing_item machines →
     IsFontOf fleet job verdict told
-font_right fleet job verdict culprit machines None h stands = tt
-font_right fleet job (Pass pages marks) culprit machines (Some font) h stands = absurd h.1
-font_right fleet job (Fail place number Differs) culprit machines (Some font) h stands = absurd h.1
-font_right fleet job (Fail place number (Fault cause)) culprit machines (Some font) h stands = absurd h.1
-font_right fleet job (Fail place number Unpinnable) culprit machines (Some font) h stands = absurd h.1
+font_right fleet job verdict failing_item machines None h stands = tt
+font_right fleet job (Pass pages marks) failing_item machines (Some font) h stands = absurd h.1
+font_right fleet job (Fail place number Differs) failing_item machines (Some font) h stands = absurd h.1
+font_right fleet job (Fail place number (Fault cause)) failing_item machines (Some font) h stands = absurd h.1
+font_right fleet job (Fail place number Unpinnable) failing_item machines (Some font) h stands = absurd h.1
 font_right fleet job (Fail place number (Finding finding)) None machines (Some font) h stands = absurd h.1
-font_right fleet job (Fail place number (Finding finding)) (Some culprit) machines (Some font) h stands =
-    stood_on fleet job place number (HoldsStill culprit h.0) (λ item printer panel s. IsAskedOf font printer s)
+font_right fleet job (Fail place number (Finding finding)) (Some failing_item) machines (Some font) h stands =
+    stood_on fleet job place number (HoldsStill failing_item h.0) (λ item printer panel s. IsAskedOf font printer s)
     (λ item printer panel s still.
     let put = still.stays (h.1.1 item still.names) in
     font_there h.0 printer panel s still.printer_is put.0 put.1 font (h.2 panel))
@@ -260,41 +269,43 @@ font_right fleet job (Fail place number (Finding finding)) (Some culprit) machin
 -- ---- a part of what is told
 
 -- the machine of the number that has the finding
-pub stopped_is : (verdict : Verdict) (culprit : Option Culprit) (machines : List MachineState) (number : ℕ) (item : Culprit)
-    (machine : MachineState) → IsFinder number verdict → culprit ≡ Some item →
-    ((entry : Entry) → IsCulprit item entry → is_one_step entry ≡ true) → IsThere number 1 machine machines →
-    StoppedAt verdict culprit machines machine
-stopped_is (Pass pages marks) culprit machines number item machine finder is one there = absurd finder
+pub stopped_is : (verdict : Verdict) (failing_item : Option FailingItem) (machines : List MachineState) (number : ℕ) (item : FailingItem)
+    (machine : MachineState) → IsFinder number verdict → failing_item ≡ Some item →
+    ((entry : Entry) → IsFailingItem item entry → is_one_step entry ≡ true) → IsThere number 1 machine machines →
+    StoppedAt verdict failing_item machines machine
+stopped_is (Pass pages marks) failing_item machines number item machine finder is one there = absurd finder
 stopped_is (Fail place profile (Finding finding)) None machines number item machine finder is one there = absurd cc
-stopped_is (Fail place profile (Finding finding)) (Some culprit) machines number item machine finder is one there =
-    let same : item ≡ culprit = cc in (
+stopped_is (Fail place profile (Finding finding)) (Some failing_item) machines number item machine finder is one there =
+    let same : item ≡ failing_item = cc in (
       subst (λ n. IsThere n 1 machine machines) finder there,
-      subst (λ c. (entry : Entry) → IsCulprit c entry → is_one_step entry ≡ true) same one,
+      subst (λ c. (entry : Entry) → IsFailingItem c entry → is_one_step entry ≡ true) same one,
     )
-stopped_is (Fail place profile (Fault cause)) culprit machines number item machine finder is one there = absurd finder
-stopped_is (Fail place profile Differs) culprit machines number item machine finder is one there = absurd finder
-stopped_is (Fail place profile Unpinnable) culprit machines number item machine finder is one there = absurd finder
+stopped_is (Fail place profile (Fault cause)) failing_item machines number item machine finder is one there = absurd finder
+stopped_is (Fail place profile Differs) failing_item machines number item machine finder is one there = absurd finder
+stopped_is (Fail place profile Unpinnable) failing_item machines number item machine finder is one there = absurd finder
 
 -- what is told of the machine that was stopped
-pub told_of : {T : Type 0} (Is : MachineState → T → Type 0) (verdict : Verdict) (culprit : Option Culprit) (machines : List MachineState)
-    (machine : MachineState) → StoppedAt verdict culprit machines machine → (told : Option T) → IfSome told (λ x. Is machine x) →
-    IsOfStopped Is verdict culprit machines told
-told_of Is verdict culprit machines machine stopped None h = tt
-told_of Is verdict culprit machines machine stopped (Some x) h = (machine, stopped, h)
+pub told_of : {T : Type 0} (Is : MachineState → T → Type 0) (verdict : Verdict) (failing_item : Option FailingItem)
+    (machines : List MachineState)
+    (machine : MachineState) → StoppedAt verdict failing_item machines machine → (told : Option T) → IfSome told (λ x. Is machine x) →
+    IsOfStopped Is verdict failing_item machines told
+told_of Is verdict failing_item machines machine stopped None h = tt
+told_of Is verdict failing_item machines machine stopped (Some x) h = (machine, stopped, h)
 
 -- what a session tells where it stands so
-module _ {T : Type 0} (Is : MachineState → T → Type 0) (culprit : Option Culprit) (machines : List MachineState) (told : Option T) where
-  pub told_open : (standing : Standing) → standing ≡ Open → told ≡ None → IsOfSession Is standing culprit machines told
-  told_open standing is none = subst (λ s. IsOfSession Is s culprit machines told) (sym is) none
+module _ {T : Type 0} (Is : MachineState → T → Type 0) (failing_item : Option FailingItem) (machines : List MachineState)
+    (told : Option T) where
+  pub told_open : (state : CheckState) → state ≡ Open → told ≡ None → IsOfSession Is state failing_item machines told
+  told_open state is none = subst (λ s. IsOfSession Is s failing_item machines told) (sym is) none
 
-  pub told_judged : (standing : Standing) (verdict : Verdict) → standing ≡ Judged verdict →
-      IsOfStopped Is verdict culprit machines told → IsOfSession Is standing culprit machines told
-  told_judged standing verdict is h = subst (λ s. IsOfSession Is s culprit machines told) (sym is) h
+  pub told_judged : (state : CheckState) (verdict : Verdict) → state ≡ Judged verdict →
+      IsOfStopped Is verdict failing_item machines told → IsOfSession Is state failing_item machines told
+  told_judged state verdict is h = subst (λ s. IsOfSession Is s failing_item machines told) (sym is) h
 
-  pub told_stopped : (standing : Standing) (error : Error) → standing ≡ Stopped error → told ≡ None →
-      IsOfSession Is standing culprit machines told
-  told_stopped standing error is none = subst (λ s. IsOfSession Is s culprit machines told) (sym is) none
+  pub told_stopped : (state : CheckState) (error : Error) → state ≡ Stopped error → told ≡ None →
+      IsOfSession Is state failing_item machines told
+  told_stopped state error is none = subst (λ s. IsOfSession Is s failing_item machines told) (sym is) none
 
-  pub judged_told : (standing : Standing) (verdict : Verdict) → standing ≡ Judged verdict →
-      IsOfSession Is standing culprit machines told → IsOfStopped Is verdict culprit machines told
-  judged_told standing verdict is h = subst (λ s. IsOfSession Is s culprit machines told) is h
+  pub judged_told : (state : CheckState) (verdict : Verdict) → state ≡ Judged verdict →
+      IsOfSession Is state failing_item machines told → IsOfStopped Is verdict failing_item machines told
+  judged_told state verdict is h = subst (λ s. IsOfSession Is s failing_item machines told) is h

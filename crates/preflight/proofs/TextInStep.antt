@@ -23,7 +23,7 @@ use Rattle.device_profile.specs.Likeness.{IsLike}
 use Rattle.device_profile.specs.Printer.{Printer}
 use Rattle.page_env.specs.declared.mark.Glyph.{Glyph}
 use Rattle.page_env.specs.declared.page.Page.{Page}
-use Rattle.page_env.specs.declared.text_lines.Look.{Look}
+use Rattle.page_env.specs.declared.text_lines.TextAppearance.{TextAppearance}
 use Rattle.page_env.specs.declared.text_lines.TextLines.{TextLines}
 use Rattle.page_env.specs.declared.text_lines.TextPlace.{TextPlace}
 use Rattle.page_env.specs.Mark.{Shape, characters_of}
@@ -43,9 +43,9 @@ use Rattle.page_machine.proofs.TextItems.{prints_lines}
 use Rattle.sinks.specs.declared.counts.Counts.{Counts}
 use Rattle.sinks.specs.Counts.{counts_after, no_counts}
 use Rattle.preflight.specs.Carriers.Each.{Each}
-use Rattle.preflight.specs.declared.lockstep.Formation.{Formation}
-use Rattle.preflight.specs.declared.lockstep.Formation.TheVariants.{Alone, Together, Apart}
-use Rattle.preflight.specs.Carriers.Formation.{others_in, KnowsNoMacro, Follows, IsFormed}
+use Rattle.preflight.specs.declared.lockstep.FleetMode.{FleetMode}
+use Rattle.preflight.specs.declared.lockstep.FleetMode.TheVariants.{Alone, Together, Apart}
+use Rattle.preflight.specs.Carriers.FleetMode.{others_in, KnowsNoMacro, Follows, IsFormed}
 use Rattle.preflight.specs.Carriers.Lockstep.{Execute, AreRunning, AreIn, Does, GoesAlike}
 use Rattle.preflight.specs.Carriers.TextInStep.{GoOn, GoOnAll, PrintInStep}
 use Rattle.preflight.specs.Carriers.Checking.{Along, HasExecuted}
@@ -55,11 +55,11 @@ use Rattle.preflight.proofs.Fleets.{each_along, each_push, agreed_more, counts_m
 
 -- ---- the marks of bytes
 
-abbrev pub shapes_of : Look → TextPlace → List ℕ → List Shape
+abbrev pub shapes_of : TextAppearance → TextPlace → List ℕ → List Shape
 shapes_of look place [] = []
 shapes_of look place (code ∷ codes) = characters_of (glyph_at look place code) ++ shapes_of look (behind look code place) codes
 
-pub shape_count : (codes : List ℕ) (look : Look) (place : TextPlace) → length (shapes_of look place codes) ≡ glyph_count codes
+pub shape_count : (codes : List ℕ) (look : TextAppearance) (place : TextPlace) → length (shapes_of look place codes) ≡ glyph_count codes
 shape_count [] look place = refl
 shape_count (code ∷ codes) look place =
     by (is_blank code) (record { code = code; request = look.request; y = look.origin.y +ℤ place.y; bounds = box_at look place })
@@ -79,7 +79,8 @@ count_one (Some glyph) rest counts = refl
 
 -- ---- machines that print bytes print them in step
 
-nothing_done : (look : Look) (place : TextPlace) (old new : List MachineState) → Each (PrintsLines look place []) old new → new ≡ old
+nothing_done : (look : TextAppearance) (place : TextPlace) (old new : List MachineState) →
+    Each (PrintsLines look place []) old new → new ≡ old
 nothing_done look place [] [] h = refl
 nothing_done look place [] (m ∷ new) h = absurd h
 nothing_done look place (m ∷ old) [] h = absurd h
@@ -98,7 +99,7 @@ line_mode : (mode : Mode) (code : ℕ) → mode ≡ modes.Pcl → unwrap_or (fol
 line_mode mode code e =
     subst (λ m. unwrap_or (follows m (line_item code)) m ≡ m) (sym e) (ap (λ o. unwrap_or o modes.Pcl) (lines_follow code))
 
-each_does : (look : Look) (place : TextPlace) (code : ℕ) (codes : List ℕ) (old new : List MachineState) → AreRunning old →
+each_does : (look : TextAppearance) (place : TextPlace) (code : ℕ) (codes : List ℕ) (old new : List MachineState) → AreRunning old →
     AreIn modes.Pcl old → Each (PrintsLines look place (code ∷ codes)) old new →
     Each (Does (Execute (line_item code)) (glyph_events look place code)) old (map (machine_behind look place code) old)
 each_does look place code codes [] new running in_pcl h = tt
@@ -118,7 +119,7 @@ each_does look place code codes (m ∷ old) (n ∷ new) running in_pcl h = (
   each_does look place code codes old new running.1 in_pcl.1 h.1,
 )
 
-each_prints : (look : Look) (place : TextPlace) (code : ℕ) (codes : List ℕ) (old new : List MachineState) →
+each_prints : (look : TextAppearance) (place : TextPlace) (code : ℕ) (codes : List ℕ) (old new : List MachineState) →
     Each (PrintsLines look place (code ∷ codes)) old new →
     Each (PrintsLines look (behind look code place) codes) (map (machine_behind look place code) old) new
 each_prints look place code codes [] [] h = tt
@@ -126,17 +127,18 @@ each_prints look place code codes [] (n ∷ new) h = absurd h
 each_prints look place code codes (m ∷ old) [] h = absurd h
 each_prints look place code codes (m ∷ old) (n ∷ new) h = (h.0.2, each_prints look place code codes old new h.1)
 
-still_running : (look : Look) (place : TextPlace) (code : ℕ) (old : List MachineState) → AreRunning old →
+still_running : (look : TextAppearance) (place : TextPlace) (code : ℕ) (old : List MachineState) → AreRunning old →
     AreRunning (map (machine_behind look place code) old)
 still_running look place code [] running = tt
 still_running look place code (m ∷ old) running = (running.0, still_running look place code old running.1)
 
-still_in_pcl : (look : Look) (place : TextPlace) (code : ℕ) (old : List MachineState) → AreIn modes.Pcl old →
+still_in_pcl : (look : TextAppearance) (place : TextPlace) (code : ℕ) (old : List MachineState) → AreIn modes.Pcl old →
     AreIn modes.Pcl (map (machine_behind look place code) old)
 still_in_pcl look place code [] in_pcl = tt
 still_in_pcl look place code (m ∷ old) in_pcl = (in_pcl.0, still_in_pcl look place code old in_pcl.1)
 
-pub print_in_step : (codes : List ℕ) (look : Look) (place : TextPlace) (old new : List MachineState) (counts : Counts) → AreRunning old →
+pub print_in_step : (codes : List ℕ) (look : TextAppearance) (place : TextPlace) (old new : List MachineState) (counts : Counts) →
+    AreRunning old →
     AreIn modes.Pcl old → Each (PrintsLines look place codes) old new →
     PrintInStep codes old new counts (counts_after (map Marked (shapes_of look place codes)) counts)
 print_in_step [] look place old new counts running in_pcl h = (nothing_done look place old new h, refl)
@@ -164,12 +166,12 @@ line_asks p q code = by (code == 13) (code == 10)
     by false false = refl
 
 -- where a machine is that printed lines
-printed_is : (codes : List ℕ) (look : Look) (place : TextPlace) (old new : MachineState) → PrintsLines look place codes old new →
+printed_is : (codes : List ℕ) (look : TextAppearance) (place : TextPlace) (old new : MachineState) → PrintsLines look place codes old new →
     new ≡ record old { page = page_behind_all look place codes old.page }
 printed_is [] look place old new h = h
 printed_is (code ∷ codes) look place old new h = printed_is codes look (behind look code place) (machine_behind look place code old) new h.2
 
-module _ (law : (item : Entry) → GoesOnLike item) (look : Look) where
+module _ (law : (item : Entry) → GoesOnLike item) (look : TextAppearance) where
   goes_on_like : (p q : Printer) → IsLike p q → (codes : List ℕ) (place : TextPlace) (page : Page) → AllGo p look place page codes →
       AllGo q look place page codes
   goes_on_like p q like [] place page h = tt
@@ -204,9 +206,9 @@ module _ (law : (item : Entry) → GoesOnLike item) (look : Look) where
         subst (λ f. AllByRecursion (Follows f) others) (sym (printed_is codes look place first first' prints)) follow
 
     -- what the first prints the others print, and all stand so again
-    pub all_print : (formation : Formation) (others others' : List MachineState) → IsFormed formation first others →
-        (formation ≡ Apart → Each (PrintsLines look place codes) others others') → ((formation ≡ Apart → ⊥) → others' ≡ others) →
-        Each (PrintsLines look place codes) (first ∷ others_in formation first others) (first' ∷ others_in formation first' others')
+    pub all_print : (fleet_mode : FleetMode) (others others' : List MachineState) → IsFormed fleet_mode first others →
+        (fleet_mode ≡ Apart → Each (PrintsLines look place codes) others others') → ((fleet_mode ≡ Apart → ⊥) → others' ≡ others) →
+        Each (PrintsLines look place codes) (first ∷ others_in fleet_mode first others) (first' ∷ others_in fleet_mode first' others')
     all_print Alone others others' formed apart same = (prints, tt)
     all_print Together others others' formed apart same = (
       prints,
@@ -217,8 +219,8 @@ module _ (law : (item : Entry) → GoesOnLike item) (look : Look) where
     )
     all_print Apart others others' formed apart same = (prints, apart refl)
 
-    pub stay_formed : (formation : Formation) (others others' : List MachineState) → IsFormed formation first others →
-        ((formation ≡ Apart → ⊥) → others' ≡ others) → IsFormed formation first' others'
+    pub stay_formed : (fleet_mode : FleetMode) (others others' : List MachineState) → IsFormed fleet_mode first others →
+        ((fleet_mode ≡ Apart → ⊥) → others' ≡ others) → IsFormed fleet_mode first' others'
     stay_formed Alone others others' formed same = same (λ e. cc) ∙ formed
     stay_formed Together others others' formed same =
         subst (λ ms. IsFormed Together first' ms) (sym (same (λ e. cc)))
@@ -226,10 +228,10 @@ module _ (law : (item : Entry) → GoesOnLike item) (look : Look) where
     stay_formed Apart others others' formed same = tt
 
 -- machines on which the first one's lines go are in mode PCL as it is
-pub all_in_pcl : (look : Look) (from : TextPlace) (codes : List ℕ) (formation : Formation) (first : MachineState)
-    (others : List MachineState) → first.mode ≡ modes.Pcl → (formation ≡ Apart → GoOnAll look from codes others) →
-    AreIn modes.Pcl (first ∷ others_in formation first others)
-all_in_pcl look from codes formation first others in_pcl apart = (in_pcl, others_in_pcl formation apart)
+pub all_in_pcl : (look : TextAppearance) (from : TextPlace) (codes : List ℕ) (fleet_mode : FleetMode) (first : MachineState)
+    (others : List MachineState) → first.mode ≡ modes.Pcl → (fleet_mode ≡ Apart → GoOnAll look from codes others) →
+    AreIn modes.Pcl (first ∷ others_in fleet_mode first others)
+all_in_pcl look from codes fleet_mode first others in_pcl apart = (in_pcl, others_in_pcl fleet_mode apart)
   where
     follow_in_pcl : (ms : List MachineState) → AreIn modes.Pcl (map (standing_as first) ms)
     follow_in_pcl [] = tt
@@ -239,13 +241,14 @@ all_in_pcl look from codes formation first others in_pcl apart = (in_pcl, others
     go_in_pcl [] h = tt
     go_in_pcl (m ∷ ms) h = (h.0.mode, go_in_pcl ms h.1)
 
-    others_in_pcl : (formation : Formation) → (formation ≡ Apart → GoOnAll look from codes others) →
-        AreIn modes.Pcl (others_in formation first others)
+    others_in_pcl : (fleet_mode : FleetMode) → (fleet_mode ≡ Apart → GoOnAll look from codes others) →
+        AreIn modes.Pcl (others_in fleet_mode first others)
     others_in_pcl Alone apart = tt
     others_in_pcl Together apart = follow_in_pcl others
     others_in_pcl Apart apart = go_in_pcl others (apart refl)
 
-pub lines_of : (printer : Printer) (codes : List ℕ) (look : Look) (place : TextPlace) (page : Page) → AllGo printer look place page codes →
+pub lines_of : (printer : Printer) (codes : List ℕ) (look : TextAppearance) (place : TextPlace) (page : Page) →
+    AllGo printer look place page codes →
     AreLines codes
 lines_of printer [] look place page h = tt
 lines_of printer (code ∷ codes) look place page h =
@@ -260,14 +263,15 @@ fewer_have_room m zero codes place h = tt
 fewer_have_room m (suc k) [] place h = tt
 fewer_have_room m (suc k) (code ∷ codes) place h = (h.0, fewer_have_room m k codes (behind m.look code place) h.1)
 
-front_goes : (printer : Printer) (k : ℕ) (codes : List ℕ) (look : Look) (place : TextPlace) (page : Page) →
+front_goes : (printer : Printer) (k : ℕ) (codes : List ℕ) (look : TextAppearance) (place : TextPlace) (page : Page) →
     AllGo printer look place page codes → AllGo printer look place page (take k codes)
 front_goes printer zero codes look place page h = tt
 front_goes printer (suc k) [] look place page h = tt
 front_goes printer (suc k) (code ∷ codes) look place page h =
     (h.0, front_goes printer k codes look (behind look code place) (page_behind look place code page) h.1)
 
-pub fewer_go : (look : Look) (from : TextPlace) (k : ℕ) (codes : List ℕ) (machines : List MachineState) → GoOnAll look from codes machines →
+pub fewer_go : (look : TextAppearance) (from : TextPlace) (k : ℕ) (codes : List ℕ) (machines : List MachineState) →
+    GoOnAll look from codes machines →
     GoOnAll look from (take k codes) machines
 fewer_go look from k codes [] h = tt
 fewer_go look from k codes (m ∷ machines) h = (
@@ -280,13 +284,13 @@ fewer_go look from k codes (m ∷ machines) h = (
   fewer_go look from k codes machines h.1,
 )
 
-one_more : (look : Look) (from : TextPlace) (codes : List ℕ) (machines : List MachineState) (m : MachineState) →
+one_more : (look : TextAppearance) (from : TextPlace) (codes : List ℕ) (machines : List MachineState) (m : MachineState) →
     GoOnAll look from codes machines → GoOn look from codes m → GoOnAll look from codes (machines ++ m ∷ [])
 one_more look from codes [] m h go = (go, tt)
 one_more look from codes (n ∷ machines) m h go = (h.0, one_more look from codes machines m h.1 go)
 
 -- what has room from where a machine stands goes on it
-pub measured_goes : (machine : MachineState) (m : TextMeasure) (look : Look) (from : TextPlace) (codes : List ℕ) →
+pub measured_goes : (machine : MachineState) (m : TextMeasure) (look : TextAppearance) (from : TextPlace) (codes : List ℕ) →
     IsMeasuredAt machine m from → m.look ≡ look → AllHaveRoom m from codes → GoOn look from codes machine
 measured_goes machine m look from codes is same room = record {
   stands = is.stands;
@@ -324,7 +328,8 @@ lines_of_more m from bytes k lines h few =
     }
 
 -- as many as go on one machine more
-pub more_go : (look : Look) (from : TextPlace) (k count : ℕ) (bytes : List ℕ) (machines : List MachineState) (i : ℕ) (m : MachineState) →
+pub more_go : (look : TextAppearance) (from : TextPlace) (k count : ℕ) (bytes : List ℕ) (machines : List MachineState) (i : ℕ)
+    (m : MachineState) →
     i < length machines → k ≤ count →
     m ≡ get_or machines i m → GoOnAll look from (take count bytes) (take i machines) → GoOn look from (take k (take count bytes)) m →
     GoOnAll look from (take k bytes) (take (i + 1) machines)
@@ -336,7 +341,7 @@ more_go look from k count bytes machines i m inside most is h go =
     (subst (λ (codes : List ℕ). GoOnAll look from codes (take i machines ++ m ∷ [])) same
     (one_more look from (take k (take count bytes)) (take i machines) m (fewer_go look from k (take count bytes) (take i machines) h) go))
 
-pub goes_at : (look : Look) (from : TextPlace) (codes : List ℕ) (machines : List MachineState) (i : ℕ) (d : MachineState) →
+pub goes_at : (look : TextAppearance) (from : TextPlace) (codes : List ℕ) (machines : List MachineState) (i : ℕ) (d : MachineState) →
     i < length machines → GoOnAll look from codes machines → GoOn look from codes (get_or machines i d)
 goes_at look from codes [] i d inside h = absurd (omega (arith, inside))
 goes_at look from codes (m ∷ machines) zero d inside h = h.0
@@ -459,9 +464,9 @@ module _ (codes : List ℕ) (old new : LexerState) (passes : ReadsLines old code
   pub line_modes : (machines machines' : List MachineState) (counts counts' : Counts) →
       PrintInStep codes machines machines' counts counts' → AreIn (mode_of old.context) machines → AreIn (mode_of new.context) machines'
   line_modes machines machines' counts counts' step in_mode =
-      subst (λ c. AreIn (mode_of c) machines') (sym passes.behind)
-      (lines_in_pcl codes machines machines' counts counts' step (subst (λ c. AreIn (mode_of c) machines) passes.before in_mode))
+      subst (λ c. AreIn (mode_of c) machines') (sym passes.ends_in_pcl)
+      (lines_in_pcl codes machines machines' counts counts' step (subst (λ c. AreIn (mode_of c) machines) passes.begins_in_pcl in_mode))
 
   -- bytes of it leave less to be read
   pub lines_less : 1 ≤ length codes → left new.context new.rest < left old.context old.rest
-  lines_less some = omega (arith, passes.total, passes.place, ap pending passes.before, ap pending passes.behind)
+  lines_less some = omega (arith, passes.total, passes.place, ap pending passes.begins_in_pcl, ap pending passes.ends_in_pcl)

@@ -2,7 +2,7 @@
 -- A reader of the verdict needs none of it.
 pub mod Each
 pub mod Lockstep
-pub mod Formation
+pub mod FleetMode
 pub mod TextInStep
 pub mod PairsInStep
 pub mod Checking

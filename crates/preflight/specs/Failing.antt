@@ -20,10 +20,10 @@ use Rattle.verdict.specs.declared.reason.Reason.TheVariants.{Fault, Finding as F
 
 -- the printer of this number in a fleet, counted from 1
 pub record IsNumbered (fleet : List Printer) (number : ℕ) (printer : Printer) : Type 0 where
-  pub before : List Printer
+  pub printers_before : List Printer
   pub after : List Printer
-  pub fleet_is : fleet ≡ before ++ printer ∷ after
-  pub number_is : number ≡ length before + 1
+  pub fleet_is : fleet ≡ printers_before ++ printer ∷ after
+  pub number_is : number ≡ length printers_before + 1
 
 -- so many items of a run find nothing
 abbrev pub GoesOn : ℕ → List ItemRun → Type 0
@@ -37,26 +37,27 @@ events_by_item items = map (λ item. item.events) items
 
 -- the run goes through so many items and the next one, which stands at this place, and finds nothing
 abbrev pub GoesThrough : ℕ → ℕ → List ItemRun → Type 0
-GoesThrough before place [] = ⊥
+GoesThrough count_before place [] = ⊥
 GoesThrough zero place (item ∷ items) = (item.finding ≡ None) × (item.place ≡ place)
-GoesThrough (suc before) place (item ∷ items) = (item.finding ≡ None) × GoesThrough before place items
+GoesThrough (suc count_before) place (item ∷ items) = (item.finding ≡ None) × GoesThrough count_before place items
 
 -- both runs of a printer from a panel, the plain one and the watched one, find nothing in so many items
 abbrev pub BothGoOn : ℕ → Printer → Panel → Reading → Type 0
-BothGoOn before printer panel reading =
-    GoesOn before (plain_run printer panel reading).items × GoesOn before (watched_run printer panel reading).items
+BothGoOn count_before printer panel reading =
+    GoesOn count_before (plain_run printer panel reading).items ×
+    GoesOn count_before (watched_run printer panel reading).items
 
 -- nor in the next one, which stands at this place
 abbrev pub BothGoThrough : ℕ → ℕ → Printer → Panel → Reading → Type 0
-BothGoThrough before place printer panel reading =
-    GoesThrough before place (plain_run printer panel reading).items
-    × GoesThrough before place (watched_run printer panel reading).items
+BothGoThrough count_before place printer panel reading =
+    GoesThrough count_before place (plain_run printer panel reading).items
+    × GoesThrough count_before place (watched_run printer panel reading).items
 
 -- the events of the item that stands behind so many others
 abbrev pub events_behind : ℕ → List ItemRun → List Event
-events_behind before [] = []
+events_behind count_before [] = []
 events_behind zero (item ∷ items) = item.events
-events_behind (suc before) (item ∷ items) = events_behind before items
+events_behind (suc count_before) (item ∷ items) = events_behind count_before items
 
 -- the events of so many items, item by item
 abbrev pub events_before : ℕ → List ItemRun → List (List Event)
@@ -87,8 +88,8 @@ pub record IsChosen (printer : Printer) (field : Field) : Type 0 where
 
 -- From every panel that the profile allows, the plain run comes without a finding to a step of this item that reads the
 -- field, which no item has set since it was last at its user default; and the panel of a valid profile chooses it.
-pub record SaysUnset (printer : Printer) (reading : Reading) (before place : ℕ) (field : Field) : Type 0 where
-  pub reads : (panel : Panel) → IsAllowed printer panel → ComesToRead printer panel reading before place field
+pub record SaysUnset (printer : Printer) (reading : Reading) (count_before place : ℕ) (field : Field) : Type 0 where
+  pub reads : (panel : Panel) → IsAllowed printer panel → ComesToRead printer panel reading count_before place field
   pub chosen : IsTrue (is_valid printer) → IsChosen printer field
 
 -- ---- a finding
@@ -99,20 +100,20 @@ pub record SaysUnset (printer : Printer) (reading : Reading) (before place : ℕ
 pub record SaysFound (fleet : List Printer) (reading : Reading) (place number : ℕ) (finding : Finding) : Type 0 where
   pub printer : Printer
   pub is_numbered : IsNumbered fleet number printer
-  pub before : ℕ
+  pub count_before : ℕ
   pub comes : (each : Printer) → Contains fleet each → (panel : Panel) → IsAllowed each panel →
-      BothGoOn before each panel reading
+      BothGoOn count_before each panel reading
   pub shared : List (List Event)
   pub alike : (each : Printer) → Contains fleet each → (panel : Panel) → IsAllowed each panel →
-      events_before before (plain_run each panel reading).items ≡ shared
+      events_before count_before (plain_run each panel reading).items ≡ shared
   pub lower : (each : Printer) (lower : ℕ) → IsNumbered fleet lower each → lower < number → (panel : Panel) →
       IsAllowed each panel →
-      BothGoThrough before place each panel reading
+      BothGoThrough count_before place each panel reading
   pub watched : (panel : Panel) → IsAllowed printer panel →
-      FindsBehind before place finding (watched_run printer panel reading).items
+      FindsBehind count_before place finding (watched_run printer panel reading).items
   pub plain : IsNotUnset finding → (panel : Panel) → IsAllowed printer panel →
-      FindsBehind before place finding (plain_run printer panel reading).items
-  pub unset : (field : Field) → finding ≡ Unset field → SaysUnset printer reading before place field
+      FindsBehind count_before place finding (plain_run printer panel reading).items
+  pub unset : (field : Field) → finding ≡ Unset field → SaysUnset printer reading count_before place field
 
 -- ---- a difference
 
@@ -120,21 +121,21 @@ pub record SaysFound (fleet : List Printer) (reading : Reading) (place number : 
 -- through it, and give the same events at each item before; there those of lower numbers, the first among them, give
 -- the same events, and the printer of this number gives others.
 pub record SaysDiffers (fleet : List Printer) (reading : Reading) (place number : ℕ) : Type 0 where
-  pub before : ℕ
+  pub count_before : ℕ
   pub printer : Printer
   pub is_numbered : IsNumbered fleet number printer
   pub is_not_first : 1 < number
   pub through : (each : Printer) → Contains fleet each → (panel : Panel) → IsAllowed each panel →
-      BothGoThrough before place each panel reading
+      BothGoThrough count_before place each panel reading
   pub shared : List (List Event)
   pub alike : (each : Printer) → Contains fleet each → (panel : Panel) → IsAllowed each panel →
-      events_before before (plain_run each panel reading).items ≡ shared
+      events_before count_before (plain_run each panel reading).items ≡ shared
   pub events : List Event
   pub lower : (each : Printer) (lower : ℕ) → IsNumbered fleet lower each → lower < number → (panel : Panel) →
       IsAllowed each panel →
-      events_behind before (plain_run each panel reading).items ≡ events
+      events_behind count_before (plain_run each panel reading).items ≡ events
   pub other : (panel : Panel) → IsAllowed printer panel →
-      events_behind before (plain_run printer panel reading).items ≢ events
+      events_behind count_before (plain_run printer panel reading).items ≢ events
 
 -- ---- a fault of the bytes
 

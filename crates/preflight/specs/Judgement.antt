@@ -3,15 +3,15 @@ use Rattle.std.specs.Prelude.{ℕ, List, Option}
 use Rattle.device_profile.specs.Printer.{Printer}
 use Rattle.page_machine.specs.MachineState.{MachineState}
 use Rattle.verdict.specs.declared.verdict.Verdict.{Verdict}
-use Rattle.preflight.specs.declared.culprit.Culprit.{Culprit}
-use Rattle.preflight.specs.Culprit.{IsTold}
+use Rattle.preflight.specs.declared.failing_item.FailingItem.{FailingItem}
+use Rattle.preflight.specs.FailingItem.{IsTold}
 use Rattle.preflight.specs.Stood.{MachineStood}
 use Rattle.preflight.specs.Verdict.{IsExact, VerdictHolds}
 use Rattle.preflight.specs.Where.{IsOnPage}
 
 -- the verdict is right; the item that the job fails at and the page are told; and the machine of a finding stands where
 -- it was found
-abbrev pub IsJudgementOn : List Printer → List ℕ → Verdict → Option Culprit → Option ℕ → List MachineState → Type 0
-IsJudgementOn fleet job verdict culprit page machines =
-    IsExact fleet job verdict × VerdictHolds fleet job verdict × IsTold job verdict culprit
-    × IsOnPage fleet job verdict page × MachineStood fleet job verdict culprit machines
+abbrev pub IsJudgementOn : List Printer → List ℕ → Verdict → Option FailingItem → Option ℕ → List MachineState → Type 0
+IsJudgementOn fleet job verdict failing_item page machines =
+    IsExact fleet job verdict × VerdictHolds fleet job verdict × IsTold job verdict failing_item
+    × IsOnPage fleet job verdict page × MachineStood fleet job verdict failing_item machines

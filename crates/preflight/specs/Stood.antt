@@ -16,12 +16,12 @@ use Rattle.page_machine.specs.Still.{is_one_step}
 use Rattle.verdict.specs.declared.reason.Reason.TheVariants.{Fault, Finding, Differs, Unpinnable}
 use Rattle.verdict.specs.declared.verdict.Verdict.{Verdict}
 use Rattle.verdict.specs.declared.verdict.Verdict.TheVariants.{Pass, Fail}
-use Rattle.preflight.specs.declared.culprit.Culprit.{Culprit}
-use Rattle.preflight.specs.declared.culprit.MissingFont.{MissingFont}
-use Rattle.preflight.specs.declared.culprit.SheetSpot.{SheetSpot}
-use Rattle.preflight.specs.declared.standing.Standing.{Standing}
-use Rattle.preflight.specs.declared.standing.Standing.TheVariants.{Open, Judged, Stopped}
-use Rattle.preflight.specs.Culprit.{IsCulprit}
+use Rattle.preflight.specs.declared.failing_item.FailingItem.{FailingItem}
+use Rattle.preflight.specs.declared.failing_item.MissingFont.{MissingFont}
+use Rattle.preflight.specs.declared.failing_item.SheetSpot.{SheetSpot}
+use Rattle.preflight.specs.declared.check_state.CheckState.{CheckState}
+use Rattle.preflight.specs.declared.check_state.CheckState.TheVariants.{Open, Judged, Stopped}
+use Rattle.preflight.specs.FailingItem.{IsFailingItem}
 use Rattle.preflight.specs.Failing.{IsNumbered}
 
 -- ---- what is told
@@ -38,14 +38,14 @@ pub record StoodBefore (fleet : List Printer) (job : List ℕ) (place number : �
     (Holds : Entry → Printer → Panel → State → Type 0) : Type 0 where
   pub reading : Reading
   pub is_reading : IsReading job reading
-  pub before : List Placed
+  pub items_before : List Placed
   pub item : Entry
   pub after : List Placed
-  pub items_are : items_of reading ≡ (before ++ at place item ∷ []) ++ after
+  pub items_are : items_of reading ≡ (items_before ++ at place item ∷ []) ++ after
   pub printer : Printer
   pub is_numbered : IsNumbered fleet number printer
   pub led : (panel : Panel) → IsAllowed printer panel →
-      (s : State) × ((run_of_items printer panel before).ending ≡ Done s) × Holds item printer panel s
+      (s : State) × ((run_of_items printer panel items_before).ending ≡ Done s) × Holds item printer panel s
 
 -- the cursor stands there on the sheet
 abbrev pub IsAt : SheetSpot → Printer → State → Type 0
@@ -78,18 +78,19 @@ IsThere number n machine [] = ⊥
 IsThere number n machine (m ∷ ms) = ((number ≡ n) × (machine ≡ m)) ⊎ IsThere number (n + 1) machine ms
 
 -- a machine is that of its printer, and where the item is one step, has the settings and the cursor from before it
-pub record HoldsStill (culprit : Culprit) (machine : MachineState) (item : Entry) (printer : Printer) (panel : Panel)
+pub record HoldsStill (failing_item : FailingItem) (machine : MachineState) (item : Entry) (printer : Printer)
+    (panel : Panel)
     (s : State) : Type 0 where
-  pub names : IsCulprit culprit item
+  pub names : IsFailingItem failing_item item
   pub printer_is : machine.printer ≡ printer
   pub stays : is_one_step item ≡ true →
       (settings_at panel machine.page.env ≡ s.settings) × (machine.page.cursor ≡ s.cursor)
 
 -- of a finding at an item, so is the machine of its number
-abbrev pub MachineStood : List Printer → List ℕ → Verdict → Option Culprit → List MachineState → Type 0
-MachineStood fleet job (Fail place number (Finding finding)) (Some culprit) machines =
+abbrev pub MachineStood : List Printer → List ℕ → Verdict → Option FailingItem → List MachineState → Type 0
+MachineStood fleet job (Fail place number (Finding finding)) (Some failing_item) machines =
     (machine : MachineState) → IsThere number 1 machine machines →
-    StoodBefore fleet job place number (HoldsStill culprit machine)
+    StoodBefore fleet job place number (HoldsStill failing_item machine)
 MachineStood fleet job _ _ machines = Unit {0}
 
 -- the printer of this number has the finding
@@ -101,9 +102,9 @@ IsFinder number (Fail place profile Differs) = ⊥
 IsFinder number (Fail place profile Unpinnable) = ⊥
 
 -- the machine of a finding at an item that is one step
-abbrev pub StoppedAt : Verdict → Option Culprit → List MachineState → MachineState → Type 0
-StoppedAt (Fail place number (Finding finding)) (Some culprit) machines machine =
-    IsThere number 1 machine machines × ((item : Entry) → IsCulprit culprit item → is_one_step item ≡ true)
+abbrev pub StoppedAt : Verdict → Option FailingItem → List MachineState → MachineState → Type 0
+StoppedAt (Fail place number (Finding finding)) (Some failing_item) machines machine =
+    IsThere number 1 machine machines × ((item : Entry) → IsFailingItem failing_item item → is_one_step item ≡ true)
 StoppedAt _ _ machines machine = ⊥
 
 -- under each panel its cursor stands there
@@ -115,15 +116,16 @@ abbrev pub LacksFont : MachineState → MissingFont → Type 0
 LacksFont machine font = (panel : Panel) → IsAskedOf font machine.printer (state_at panel machine.page)
 
 -- a part of what is told is that of such a machine
-abbrev pub IsOfStopped : {T : Type 0} → (MachineState → T → Type 0) → Verdict → Option Culprit → List MachineState →
+abbrev pub IsOfStopped : {T : Type 0} → (MachineState → T → Type 0) → Verdict → Option FailingItem → List MachineState →
     Option T → Type 0
-IsOfStopped Is verdict culprit machines None = Unit {0}
-IsOfStopped Is verdict culprit machines (Some told) =
-    (machine : MachineState) × StoppedAt verdict culprit machines machine × Is machine told
+IsOfStopped Is verdict failing_item machines None = Unit {0}
+IsOfStopped Is verdict failing_item machines (Some told) =
+    (machine : MachineState) × StoppedAt verdict failing_item machines machine × Is machine told
 
 -- what a session tells of it
-abbrev pub IsOfSession : {T : Type 0} → (MachineState → T → Type 0) → Standing → Option Culprit → List MachineState →
+abbrev pub IsOfSession : {T : Type 0} → (MachineState → T → Type 0) → CheckState → Option FailingItem →
+    List MachineState →
     Option T → Type 0
-IsOfSession Is Open culprit machines told = told ≡ None
-IsOfSession Is (Judged verdict) culprit machines told = IsOfStopped Is verdict culprit machines told
-IsOfSession Is (Stopped error) culprit machines told = told ≡ None
+IsOfSession Is Open failing_item machines told = told ≡ None
+IsOfSession Is (Judged verdict) failing_item machines told = IsOfStopped Is verdict failing_item machines told
+IsOfSession Is (Stopped error) failing_item machines told = told ≡ None

@@ -37,7 +37,7 @@ abbrev pub DiffersOnPage : List Printer → Reading → (page : ℕ) → Type 0
 DiffersOnPage fleet reading page =
     (w : Wrong) × (first_wrong (runs_of fleet reading) ≡ Some w)
     × ((printer : Printer) → Contains fleet printer → (panel : Panel) → IsAllowed printer panel →
-    page ≡ page_of_run (take w.before (watched_run printer panel reading).items))
+    page ≡ page_of_run (take w.count_before (watched_run printer panel reading).items))
 
 -- of a fault of the bytes: the page that the items before it leave open on each printer
 abbrev pub StopsOnPage : List Printer → Reading → (page : ℕ) → Type 0

@@ -4,13 +4,13 @@ ghost use Rattle.std.specs.Prelude.{◌≡◌, ℕ, List, length, None};
 ghost use Rattle.device_profile.specs.Printer.{Printer};
 ghost use Rattle.preflight.specs.Carriers.Lockstep.{machines_of, counts_of};
 ghost use Rattle.preflight.specs.Judgement.{IsJudgementOn};
-ghost use Rattle.preflight.specs.Standing.{Ends};
+ghost use Rattle.preflight.specs.CheckState.{Ends};
 ghost use Rattle.preflight.specs.Where.{page_with};
 
-use crate::culprit::Culprit;
+use crate::check_state::CheckState;
+use crate::failing_item::FailingItem;
 use crate::laws::fails_say;
 use crate::lockstep::Lockstep;
-use crate::standing::Standing;
 use page_machine::{
     ended_pages_are_whole, marks_are_inside, peaks_are_within, watched_is_plain,
     watched_runs_are_alike,
@@ -23,13 +23,13 @@ use verdict::{Failure, Verdict};
 /// What a check carries from one item to the next.
 ///
 /// What executes items tells whether the check is still open. Where it is not, the item that the
-/// job fails at is the culprit.
+/// job fails at is the failing item.
 #[derive(Drop)]
 pub struct Checking<'p, A: Allocator + Copy, P: Allocator> {
     pub lexer: Lexer<A>,
     pub machines: Lockstep<'p, A, P>,
-    pub standing: Standing,
-    pub culprit: Option<Culprit>,
+    pub state: CheckState,
+    pub failing_item: Option<FailingItem>,
 }
 
 impl<A: Allocator + Copy, P: Allocator> Checking<'_, A, P> {
@@ -40,7 +40,7 @@ impl<A: Allocator + Copy, P: Allocator> Checking<'_, A, P> {
     /// open.
     pub fn execute_decided(&mut self) -> bool
         requires may { MayExecute self.old }
-        requires untold { self.old.culprit ≡ None }
+        requires untold { self.old.failing_item ≡ None }
         ensures { ExecutesDecided self.old self.new result }
     {
         one_reading();
@@ -54,14 +54,14 @@ impl<A: Allocator + Copy, P: Allocator> Checking<'_, A, P> {
             }
             is_open = if let Some(read) = self.lexer.next_pair() {
                 let item = Item::Simple(read.item);
-                let (standing, culprit) = (&mut self.standing, &mut self.culprit);
+                let (state, failing_item) = (&mut self.state, &mut self.failing_item);
                 // Behind a pair mostly stands the next one.
-                self.machines.step(read.place, &item, standing, culprit) && self.execute_plot()
+                self.machines.step(read.place, &item, state, failing_item) && self.execute_plot()
             } else {
                 match self.lexer.next_other() {
                     Ok(Lexed::Item(place, item)) => {
-                        let (standing, culprit) = (&mut self.standing, &mut self.culprit);
-                        if !self.machines.step_other(place, &item, standing, culprit) {
+                        let (state, failing_item) = (&mut self.state, &mut self.failing_item);
+                        if !self.machines.step_other(place, &item, state, failing_item) {
                             false
                         } else if is_row(&item) {
                             // Behind a row mostly stands the next one.
@@ -72,7 +72,7 @@ impl<A: Allocator + Copy, P: Allocator> Checking<'_, A, P> {
                     }
                     Ok(Lexed::NeedMore) => return true,
                     Ok(Lexed::End) => return true,
-                    Err(fault) => return self.standing.fail(Failure::of_fault(fault)),
+                    Err(fault) => return self.state.fail(Failure::of_fault(fault)),
                 }
             };
         }
@@ -83,11 +83,11 @@ impl<A: Allocator + Copy, P: Allocator> Checking<'_, A, P> {
     /// unless memory is refused.
     pub fn finish(&mut self, total: u64)
         requires may { MayExecute self.old }
-        requires untold { self.old.culprit ≡ None }
-        ensures { Ends self.new.standing (λ verdict. (fleet : List Printer) (bytes : List ℕ) →
+        requires untold { self.old.failing_item ≡ None }
+        ensures { Ends self.new.state (λ verdict. (fleet : List Printer) (bytes : List ℕ) →
             HasExecuted fleet bytes self.old.lexer (machines_of self.old.machines)
             (counts_of self.old.machines) → total ≡ length bytes →
-            IsJudgementOn fleet bytes verdict self.new.culprit
+            IsJudgementOn fleet bytes verdict self.new.failing_item
             (page_with verdict (counts_of self.new.machines)) (machines_of self.new.machines)) }
     {
         watched_runs_are_alike();
@@ -100,11 +100,11 @@ impl<A: Allocator + Copy, P: Allocator> Checking<'_, A, P> {
         if !self.execute_decided() {
             return;
         }
-        if !self.machines.finish(total, &mut self.standing) {
+        if !self.machines.finish(total, &mut self.state) {
             return;
         }
         let counts = self.machines.counts();
-        self.standing = Standing::Judged(Verdict::Pass {
+        self.state = CheckState::Judged(Verdict::Pass {
             pages: counts.pages,
             marks: counts.marks,
         });

@@ -26,16 +26,16 @@ impl<A: Allocator + Copy, P: Allocator> Checking<'_, A, P> {
             }
             if let Some(read) = self.lexer.next_pair() {
                 let item = Item::Simple(read.item);
-                let (standing, culprit) = (&mut self.standing, &mut self.culprit);
-                if !self.machines.step(read.place, &item, standing, culprit) {
+                let (state, failing_item) = (&mut self.state, &mut self.failing_item);
+                if !self.machines.step(read.place, &item, state, failing_item) {
                     return false;
                 }
             } else if let Some(read) = self.lexer.next_motion() {
                 let item = Item::Simple(read.item);
-                let (standing, culprit) = (&mut self.standing, &mut self.culprit);
+                let (state, failing_item) = (&mut self.state, &mut self.failing_item);
                 if !self
                     .machines
-                    .step_other(read.place, &item, standing, culprit)
+                    .step_other(read.place, &item, state, failing_item)
                 {
                     return false;
                 }
@@ -79,10 +79,10 @@ impl<A: Allocator + Copy, P: Allocator> Checking<'_, A, P> {
             };
             if !self.machines.draw_pair(&bounds, read.item) {
                 let item = Item::Simple(read.item);
-                let (standing, culprit) = (&mut self.standing, &mut self.culprit);
+                let (state, failing_item) = (&mut self.state, &mut self.failing_item);
                 return self
                     .machines
-                    .step_other(read.place, &item, standing, culprit);
+                    .step_other(read.place, &item, state, failing_item);
             }
         }
     }

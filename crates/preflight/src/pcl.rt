@@ -27,13 +27,13 @@ impl<A: Allocator + Copy, P: Allocator> Checking<'_, A, P> {
         watched_runs_are_alike();
         loop {
             if let Some(read) = self.lexer.next_command() {
-                let (standing, culprit) = (&mut self.standing, &mut self.culprit);
-                if !self.machines.step_read(read, standing, culprit) {
+                let (state, failing_item) = (&mut self.state, &mut self.failing_item);
+                if !self.machines.step_read(read, state, failing_item) {
                     return false;
                 }
             } else if let Some(read) = self.lexer.next_line_end() {
-                let (standing, culprit) = (&mut self.standing, &mut self.culprit);
-                if !self.machines.step_line_end(read, standing, culprit) {
+                let (state, failing_item) = (&mut self.state, &mut self.failing_item);
+                if !self.machines.step_line_end(read, state, failing_item) {
                     return false;
                 }
             } else if !execute_text(&mut self.lexer, &mut self.machines) {

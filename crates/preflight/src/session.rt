@@ -14,11 +14,11 @@ ghost use Rattle.preflight.specs.Judgement.{IsJudgementOn};
 ghost use Rattle.preflight.specs.Stood.{LacksFont, IsOfSession, IsSpotOf};
 ghost use Rattle.preflight.specs.Carriers.Lockstep.{AreIn, AreRunning, counts_of, machines_of};
 
+use crate::check_state::CheckState;
 use crate::checking::Checking;
-use crate::culprit::{Culprit, MissingFont, SheetSpot, page_with};
+use crate::failing_item::{FailingItem, MissingFont, SheetSpot, page_with};
 use crate::laws::fails_say;
 use crate::lockstep::Lockstep;
-use crate::standing::Standing;
 use crate::stood::{cursor_with, font_with};
 use device_profile::Profile;
 use pcl_lexer::Lexer;
@@ -44,7 +44,7 @@ impl<'p, A: Allocator + Copy, P: Allocator> Model for Session<'p, A, P> {
     ghost use Rattle.std.specs.Prelude.{◌≡◌, ◌≤◌, ◌+◌, ◌^◌, length, None, false};
     ghost use Rattle.pcl_lexer.specs.Lexing.State.{WantsMore};
     ghost use Rattle.pcl_lexer.specs.Modes.{mode_of};
-    ghost use Rattle.preflight.specs.declared.standing.Standing.TheVariants.{Open};
+    ghost use Rattle.preflight.specs.declared.check_state.CheckState.TheVariants.{Open};
     ghost use Rattle.preflight.specs.Session.{SessionState};
     ghost use Rattle.preflight.specs.Carriers.Lockstep.{AreIn, AreRunning, counts_of, machines_of};
 
@@ -55,21 +55,21 @@ impl<'p, A: Allocator + Copy, P: Allocator> Model for Session<'p, A, P> {
       machines = machines_of session.checking.machines;
       counts = counts_of session.checking.machines;
       total = session.total;
-      standing = session.checking.standing;
-      culprit = session.checking.culprit;
+      state = session.checking.state;
+      failing_item = session.checking.failing_item;
     } };
 
-    ghost invariant = { λ session. session.checking.standing ≡ Open →
+    ghost invariant = { λ session. session.checking.state ≡ Open →
         (session.checking.lexer.ended ≡ false) × WantsMore session.checking.lexer
         × AreRunning (machines_of session.checking.machines)
         × AreIn (mode_of session.checking.lexer.context) (machines_of session.checking.machines)
         × (session.checking.lexer.place + length session.checking.lexer.rest ≡ session.total)
         × (session.total ≤ 2 ^ 62)
-        × (session.checking.culprit ≡ None) };
+        × (session.checking.failing_item ≡ None) };
 }
 
 impl<'p, A: Allocator + Copy, P: Allocator> Session<'p, A, P> {
-    ghost use Rattle.preflight.specs.declared.standing.Standing.TheVariants as standings;
+    ghost use Rattle.preflight.specs.declared.check_state.CheckState.TheVariants as states;
 
     /// A check to which nothing was fed.
     ///
@@ -78,7 +78,7 @@ impl<'p, A: Allocator + Copy, P: Allocator> Session<'p, A, P> {
     pub fn new(alloc: A, fleet: &'p [Profile<P>]) -> Result<Self, Error>
         ensures none { IfOk result (λ session. HasChecked fleet.now [] session) }
         ensures fresh { IfOk result (λ session. ChecksOn session [] session) }
-        ensures begun { IfOk result (λ session. (session.standing ≡ standings.Open)
+        ensures begun { IfOk result (λ session. (session.state ≡ states.Open)
             × (session.total ≡ 0)) }
         ensures no_profile { IsErrOf result Error.NoProfile ↔ (fleet.now ≡ []) }
         ensures errors { IfErr result (λ error. (error ≡ Error.NoProfile)
@@ -92,8 +92,8 @@ impl<'p, A: Allocator + Copy, P: Allocator> Session<'p, A, P> {
                     checking: Checking {
                         lexer: Lexer::new(alloc),
                         machines,
-                        standing: Standing::Open,
-                        culprit: None,
+                        state: CheckState::Open,
+                        failing_item: None,
                     },
                     total: 0,
                 })
@@ -113,25 +113,25 @@ impl<'p, A: Allocator + Copy, P: Allocator> Session<'p, A, P> {
         ensures fed { OnOk result ((fleet : List Printer) (bytes : List ℕ) →
             HasChecked fleet bytes self.old → HasChecked fleet (bytes ++ piece.now) self.new) }
         ensures stopped { (error : Error) → (result ≡ Err error) ↔
-            (self.new.standing ≡ standings.Stopped error) }
-        ensures after_error { (error : Error) → self.old.standing ≡ standings.Stopped error →
+            (self.new.state ≡ states.Stopped error) }
+        ensures after_error { (error : Error) → self.old.state ≡ states.Stopped error →
             self.new ≡ self.old }
-        ensures after_verdict { (verdict : Verdict) → self.old.standing ≡ standings.Judged verdict →
+        ensures after_verdict { (verdict : Verdict) → self.old.state ≡ states.Judged verdict →
             self.new ≡ self.old }
-        ensures turns { self.old.standing ≡ standings.Open → IsErrOf result Error.Turns ↔
+        ensures turns { self.old.state ≡ states.Open → IsErrOf result Error.Turns ↔
             (2 ^ 62 < self.old.total + length piece.now) }
-        ensures errors { self.old.standing ≡ standings.Open →
+        ensures errors { self.old.state ≡ states.Open →
             IfErr result (λ error. (error ≡ Error.Turns) ⊎ (error ≡ Error.Memory)) }
-        ensures total { self.new.standing ≡ standings.Open → self.new.total ≡
+        ensures total { self.new.state ≡ states.Open → self.new.total ≡
             self.old.total + length piece.now }
     {
-        match self.checking.standing {
-            Standing::Open => {}
-            Standing::Judged(_) => return Ok(()),
-            Standing::Stopped(error) => return Err(error),
+        match self.checking.state {
+            CheckState::Open => {}
+            CheckState::Judged(_) => return Ok(()),
+            CheckState::Stopped(error) => return Err(error),
         }
         if piece.len() as u64 > MOST_BYTES - self.total {
-            self.checking.standing = Standing::Stopped(Error::Turns);
+            self.checking.state = CheckState::Stopped(Error::Turns);
             return Err(Error::Turns);
         }
         let mut rest = piece;
@@ -150,23 +150,23 @@ impl<'p, A: Allocator + Copy, P: Allocator> Session<'p, A, P> {
     ///
     /// It is None while nothing is wrong, and for a fault of the bytes. After an error it says
     /// nothing.
-    pub fn culprit(&self) -> Option<Culprit>
-        ensures value { result ≡ self.now.culprit }
-        ensures open { self.now.standing ≡ standings.Open → result ≡ None }
+    pub fn failing_item(&self) -> Option<FailingItem>
+        ensures value { result ≡ self.now.failing_item }
+        ensures open { self.now.state ≡ states.Open → result ≡ None }
     {
-        self.checking.culprit
+        self.checking.failing_item
     }
 
     /// The page on which the job fails, whatever follows.
     ///
     /// It is None while nothing is wrong, and after an error.
     pub fn page(&self) -> Option<u64>
-        ensures { result ≡ page_told self.now.standing self.now.counts }
+        ensures { result ≡ page_told self.now.state self.now.counts }
     {
-        match self.checking.standing {
-            Standing::Open => None,
-            Standing::Judged(verdict) => page_with(verdict, self.checking.machines.counts()),
-            Standing::Stopped(_) => None,
+        match self.checking.state {
+            CheckState::Open => None,
+            CheckState::Judged(verdict) => page_with(verdict, self.checking.machines.counts()),
+            CheckState::Stopped(_) => None,
         }
     }
 
@@ -176,14 +176,15 @@ impl<'p, A: Allocator + Copy, P: Allocator> Session<'p, A, P> {
     /// It is None where the panel decides that, for what is more than one step on the page, for
     /// what is no finding, while nothing is wrong, and after an error.
     pub fn cursor(&self) -> Option<SheetSpot>
-        ensures { IsOfSession IsSpotOf self.now.standing self.now.culprit self.now.machines result }
+        ensures { IsOfSession IsSpotOf self.now.state self.now.failing_item
+            self.now.machines result }
     {
-        match self.checking.standing {
-            Standing::Open => None,
-            Standing::Judged(verdict) => {
-                cursor_with(verdict, self.checking.culprit, &self.checking.machines)
+        match self.checking.state {
+            CheckState::Open => None,
+            CheckState::Judged(verdict) => {
+                cursor_with(verdict, self.checking.failing_item, &self.checking.machines)
             }
-            Standing::Stopped(_) => None,
+            CheckState::Stopped(_) => None,
         }
     }
 
@@ -192,15 +193,15 @@ impl<'p, A: Allocator + Copy, P: Allocator> Session<'p, A, P> {
     ///
     /// It is None where `cursor` is, for a panel that decides it and what is more than one step.
     pub fn font(&self) -> Option<MissingFont>
-        ensures { IsOfSession LacksFont self.now.standing self.now.culprit self.now.machines
+        ensures { IsOfSession LacksFont self.now.state self.now.failing_item self.now.machines
             result }
     {
-        match self.checking.standing {
-            Standing::Open => None,
-            Standing::Judged(verdict) => {
-                font_with(verdict, self.checking.culprit, &self.checking.machines)
+        match self.checking.state {
+            CheckState::Open => None,
+            CheckState::Judged(verdict) => {
+                font_with(verdict, self.checking.failing_item, &self.checking.machines)
             }
-            Standing::Stopped(_) => None,
+            CheckState::Stopped(_) => None,
         }
     }
 
@@ -214,11 +215,11 @@ impl<'p, A: Allocator + Copy, P: Allocator> Session<'p, A, P> {
             HasChecked fleet bytes self.entry → IsExact fleet bytes verdict) }
         ensures headline { IfOk result (λ verdict. (fleet : List Printer) (bytes : List ℕ) →
             HasChecked fleet bytes self.entry → VerdictHolds fleet bytes verdict) }
-        ensures after_verdict { (verdict : Verdict) → self.entry.standing ≡
-            standings.Judged verdict → result ≡ Ok verdict }
-        ensures after_error { (error : Error) → self.entry.standing ≡ standings.Stopped error →
+        ensures after_verdict { (verdict : Verdict) → self.entry.state ≡
+            states.Judged verdict → result ≡ Ok verdict }
+        ensures after_error { (error : Error) → self.entry.state ≡ states.Stopped error →
             result ≡ Err error }
-        ensures errors { self.entry.standing ≡ standings.Open →
+        ensures errors { self.entry.state ≡ states.Open →
             IfErr result (λ error. error ≡ Error.Memory) }
     {
         self.verdict()
@@ -228,22 +229,23 @@ impl<'p, A: Allocator + Copy, P: Allocator> Session<'p, A, P> {
     // It only borrows the session, so that the proof of each way out need not free it.
     fn verdict(&mut self) -> Result<Verdict, Error>
         ensures ended { IfOk result (λ verdict. (fleet : List Printer) (bytes : List ℕ) →
-            HasChecked fleet bytes self.old → IsJudgementOn fleet bytes verdict self.new.culprit
+            HasChecked fleet bytes self.old →
+            IsJudgementOn fleet bytes verdict self.new.failing_item
             (page_with verdict self.new.counts) self.new.machines) }
-        ensures judged { (verdict : Verdict) → self.old.standing ≡ standings.Judged verdict →
+        ensures judged { (verdict : Verdict) → self.old.state ≡ states.Judged verdict →
             result ≡ Ok verdict }
-        ensures kept { (verdict : Verdict) → self.old.standing ≡ standings.Judged verdict →
+        ensures kept { (verdict : Verdict) → self.old.state ≡ states.Judged verdict →
             self.new ≡ self.old }
-        ensures stopped { (error : Error) → self.old.standing ≡ standings.Stopped error → result ≡
+        ensures stopped { (error : Error) → self.old.state ≡ states.Stopped error → result ≡
             Err error }
-        ensures errors { self.old.standing ≡ standings.Open →
+        ensures errors { self.old.state ≡ states.Open →
             IfErr result (λ error. error ≡ Error.Memory) }
     {
         fails_say();
-        match self.checking.standing {
-            Standing::Open => Consumer::end(self, &mut ()),
-            Standing::Judged(verdict) => Ok(verdict),
-            Standing::Stopped(error) => Err(error),
+        match self.checking.state {
+            CheckState::Open => Consumer::end(self, &mut ()),
+            CheckState::Judged(verdict) => Ok(verdict),
+            CheckState::Stopped(error) => Err(error),
         }
     }
 }
@@ -264,24 +266,24 @@ impl<A: Allocator + Copy, P: Allocator> Consumer<()> for Session<'_, A, P> {
     fn piece(&mut self, _outlet: &mut (), piece: &[u8]) -> Result<Option<Verdict>, Error> {
         fails_say();
         if self.checking.lexer.feed(piece).is_err() {
-            self.checking.standing = Standing::Stopped(Error::Memory);
+            self.checking.state = CheckState::Stopped(Error::Memory);
             return Err(Error::Memory);
         }
         self.total += piece.len() as u64;
         self.checking.execute_decided();
-        match self.checking.standing {
-            Standing::Open => Ok(None),
-            Standing::Judged(verdict) => Ok(Some(verdict)),
-            Standing::Stopped(error) => Err(error),
+        match self.checking.state {
+            CheckState::Open => Ok(None),
+            CheckState::Judged(verdict) => Ok(Some(verdict)),
+            CheckState::Stopped(error) => Err(error),
         }
     }
 
     fn end(&mut self, _outlet: &mut ()) -> Result<Verdict, Error> {
         self.checking.finish(self.total);
-        match self.checking.standing {
-            Standing::Open => unreachable!(),
-            Standing::Judged(verdict) => Ok(verdict),
-            Standing::Stopped(error) => Err(error),
+        match self.checking.state {
+            CheckState::Open => unreachable!(),
+            CheckState::Judged(verdict) => Ok(verdict),
+            CheckState::Stopped(error) => Err(error),
         }
     }
 

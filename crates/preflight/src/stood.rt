@@ -5,7 +5,7 @@ ghost use Rattle.std.specs.Prelude.{◌≡◌, IfSome};
 ghost use Rattle.preflight.specs.Carriers.Lockstep.{machines_of};
 ghost use Rattle.preflight.specs.Stood.{LacksFont, IsFinder, IsOfStopped, IsSpotOf, StoppedAt};
 
-use crate::culprit::{Culprit, MissingFont, SheetSpot};
+use crate::failing_item::{FailingItem, MissingFont, SheetSpot};
 use crate::lockstep::Lockstep;
 use device_profile::nearest_request;
 use page_env::{Finding, SheetPlace, font_request, known_cursor};
@@ -35,14 +35,14 @@ fn finder(verdict: Verdict) -> Option<u64>
 /// The machine of a finding at an item that is one step.
 fn stopped<'l, 'p, A: Allocator + Copy, P: Allocator>(
     verdict: Verdict,
-    culprit: Option<Culprit>,
+    failing_item: Option<FailingItem>,
     machines: &'l Lockstep<'p, A, P>,
 ) -> Option<&'l Machine<'p, P, A>>
     ensures { IfSome result (λ machine.
-        StoppedAt verdict culprit (machines_of machines.now) machine.now) }
+        StoppedAt verdict failing_item (machines_of machines.now) machine.now) }
 {
     let number = finder(verdict)?;
-    let item = culprit?;
+    let item = failing_item?;
     if !item.is_one_step() {
         return None;
     }
@@ -88,22 +88,22 @@ fn font_of<A: Allocator + Copy, P: Allocator>(machine: &Machine<'_, P, A>) -> Op
 /// Where the cursor stood that is told with a verdict.
 pub(crate) fn cursor_with<A: Allocator + Copy, P: Allocator>(
     verdict: Verdict,
-    culprit: Option<Culprit>,
+    failing_item: Option<FailingItem>,
     machines: &Lockstep<'_, A, P>,
 ) -> Option<SheetSpot>
-    ensures { IsOfStopped IsSpotOf verdict culprit (machines_of machines.now) result }
+    ensures { IsOfStopped IsSpotOf verdict failing_item (machines_of machines.now) result }
 {
-    let machine = stopped(verdict, culprit, machines)?;
+    let machine = stopped(verdict, failing_item, machines)?;
     spot_of(machine)
 }
 
 /// The font that is told with a verdict: what no face answers.
 pub(crate) fn font_with<A: Allocator + Copy, P: Allocator>(
     verdict: Verdict,
-    culprit: Option<Culprit>,
+    failing_item: Option<FailingItem>,
     machines: &Lockstep<'_, A, P>,
 ) -> Option<MissingFont>
-    ensures { IsOfStopped LacksFont verdict culprit (machines_of machines.now) result }
+    ensures { IsOfStopped LacksFont verdict failing_item (machines_of machines.now) result }
 {
     let Verdict::Fail {
         finding: Reason::Finding(Finding::NoFont),
@@ -112,6 +112,6 @@ pub(crate) fn font_with<A: Allocator + Copy, P: Allocator>(
     else {
         return None;
     };
-    let machine = stopped(verdict, culprit, machines)?;
+    let machine = stopped(verdict, failing_item, machines)?;
     font_of(machine)
 }

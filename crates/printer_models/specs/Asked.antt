@@ -19,21 +19,21 @@ is_among papers paper = list_any (λ held. code_of held == code_of paper) papers
 
 -- a paper that the model can have and that did not come before
 abbrev pub held_paper : Model → List Paper → Paper → Result Paper PaperFault
-held_paper model before paper =
+held_paper model papers_before paper =
     if not (is_among (facts_of model).papers paper) then Err NotHeld
-    else (if is_among before paper then Err Repeated else Ok paper)
+    else (if is_among papers_before paper then Err Repeated else Ok paper)
 
 -- the paper of a word, behind others, or what is wrong with the word
 abbrev pub paper_asked : Model → List Paper → List ℕ → Result Paper PaperFault
-paper_asked model before word = option_map_or (held_paper model before) (paper_named word) (Err Unknown)
+paper_asked model papers_before word = option_map_or (held_paper model papers_before) (paper_named word) (Err Unknown)
 
 -- the papers of words, behind others, or the first word that is wrong
 abbrev pub papers_from : Model → List Paper → List (List ℕ) → Result (List Paper) WordFault
-papers_from model before [] = Ok before
-papers_from model before (word ∷ words) =
-    elim (paper_asked model before word) [
-      | Ok paper ↦ papers_from model (before ++ paper ∷ []) words
-      | Err fault ↦ Err (record { index = length before; fault = fault })
+papers_from model papers_before [] = Ok papers_before
+papers_from model papers_before (word ∷ words) =
+    elim (paper_asked model papers_before word) [
+      | Ok paper ↦ papers_from model (papers_before ++ paper ∷ []) words
+      | Err fault ↦ Err (record { index = length papers_before; fault = fault })
     ]
 
 -- without a word letter and A4 are asked for

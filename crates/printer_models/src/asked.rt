@@ -82,22 +82,22 @@ fn papers_named<A: Allocator>(
 }
 
 /// The paper of a word, behind others, or what is wrong with the word.
-fn paper_asked(model: Model, before: &[Paper], word: &str) -> Result<Paper, PaperFault>
-    ensures { result ≡ paper_asked model before.now word.now }
+fn paper_asked(model: Model, papers_before: &[Paper], word: &str) -> Result<Paper, PaperFault>
+    ensures { result ≡ paper_asked model papers_before.now word.now }
 {
     match Paper::named(word) {
-        Some(paper) => held_paper(model, before, paper),
+        Some(paper) => held_paper(model, papers_before, paper),
         None => Err(PaperFault::Unknown),
     }
 }
 
 /// A paper that the model can have and that did not come before, or what is wrong with it.
-fn held_paper(model: Model, before: &[Paper], paper: Paper) -> Result<Paper, PaperFault>
-    ensures { result ≡ held_paper model before.now paper }
+fn held_paper(model: Model, papers_before: &[Paper], paper: Paper) -> Result<Paper, PaperFault>
+    ensures { result ≡ held_paper model papers_before.now paper }
 {
     if !is_among(model.row().papers, paper) {
         Err(PaperFault::NotHeld)
-    } else if is_among(before, paper) {
+    } else if is_among(papers_before, paper) {
         Err(PaperFault::Repeated)
     } else {
         Ok(paper)

@@ -16,27 +16,27 @@ use Rattle.profile_commands.specs.ProfileNew.{wrong_paper}
 
 -- what names come to, where the first of them comes to this
 abbrev papers_behind : Model → List Paper → List (List ℕ) → Result Paper PaperFault → Result (List Paper) WordFault
-papers_behind model before names (Ok paper) = papers_from model (before ++ paper ∷ []) names
-papers_behind model before names (Err fault) = Err (record { index = length before; fault = fault })
+papers_behind model papers_before names (Ok paper) = papers_from model (papers_before ++ paper ∷ []) names
+papers_behind model papers_before names (Err fault) = Err (record { index = length papers_before; fault = fault })
 
-one_of_more : (model : Model) (before : List Paper) (names : List (List ℕ)) (wrong : WordFault) (first : Result Paper PaperFault)
-    → ((paper : Paper) → papers_from model (before ++ paper ∷ []) names ≡ Err wrong →
-    wrong.index < length (before ++ paper ∷ []) + length names)
-    → papers_behind model before names first ≡ Err wrong → wrong.index < length before + suc (length names)
-one_of_more model before names wrong (Ok paper) more e =
-    let within = more paper e in omega (arith, length-append before (paper ∷ []))
-one_of_more model before names wrong (Err fault) more e =
-    let here : WordFault = record { index = length before; fault = fault } in
+one_of_more : (model : Model) (papers_before : List Paper) (names : List (List ℕ)) (wrong : WordFault) (first : Result Paper PaperFault)
+    → ((paper : Paper) → papers_from model (papers_before ++ paper ∷ []) names ≡ Err wrong →
+    wrong.index < length (papers_before ++ paper ∷ []) + length names)
+    → papers_behind model papers_before names first ≡ Err wrong → wrong.index < length papers_before + suc (length names)
+one_of_more model papers_before names wrong (Ok paper) more e =
+    let within = more paper e in omega (arith, length-append papers_before (paper ∷ []))
+one_of_more model papers_before names wrong (Err fault) more e =
+    let here : WordFault = record { index = length papers_before; fault = fault } in
     let same : here ≡ wrong = cc in
-    let place : length before ≡ wrong.index = ap (λ (found : WordFault). found.index) same in
+    let place : length papers_before ≡ wrong.index = ap (λ (found : WordFault). found.index) same in
     omega arith
 
-one_behind : (model : Model) (before : List Paper) (names : List (List ℕ)) (wrong : WordFault) →
-    papers_from model before names ≡ Err wrong → wrong.index < length before + length names
-one_behind model before [] wrong e = cc
-one_behind model before (name ∷ names) wrong e =
-    one_of_more model before names wrong (paper_asked model before name)
-    (λ paper further. one_behind model (before ++ paper ∷ []) names wrong further) e
+one_behind : (model : Model) (papers_before : List Paper) (names : List (List ℕ)) (wrong : WordFault) →
+    papers_from model papers_before names ≡ Err wrong → wrong.index < length papers_before + length names
+one_behind model papers_before [] wrong e = cc
+one_behind model papers_before (name ∷ names) wrong e =
+    one_of_more model papers_before names wrong (paper_asked model papers_before name)
+    (λ paper further. one_behind model (papers_before ++ paper ∷ []) names wrong further) e
 
 -- it is one of the names
 one_of_names : (model : Model) (names : List (List ℕ)) (wrong : WordFault) → papers_asked model names ≡ Err wrong →

@@ -38,7 +38,7 @@ unless holds fault = if holds then [] else fault ∷ []
 
 -- a number behind others, unless it is among them
 abbrev pub with_new : List ℕ → ℕ → List ℕ
-with_new before n = if list_any (λ m. m == n) before then before else before ++ n ∷ []
+with_new numbers n = if list_any (λ m. m == n) numbers then numbers else numbers ++ n ∷ []
 
 -- the sizes and the orientations of rows, each once
 abbrev pub sizes_of : List Geometry → List ℕ

@@ -38,7 +38,7 @@ heading_lines face = codes "  " ++ cut_words face.request ++ codes "\n" ++ metri
 
 -- a face has no heading of its own where it shares that of the one before it
 unfoldable pub heading_behind : Option Face → Face → List ℕ
-heading_behind before face = if option_map_or (is_alike face) before false then [] else heading_lines face
+heading_behind last_face face = if option_map_or (is_alike face) last_face false then [] else heading_lines face
 
 -- codes from the first to the last
 unfoldable pub range_words : CodeRange → List ℕ
@@ -61,12 +61,12 @@ unfoldable pub set_line : Face → List ℕ
 set_line face = face_words face ++ codes ": " ++ ranges_words face.codes ++ codes "\n"
 
 unfoldable pub face_lines : Option Face → Face → List ℕ
-face_lines before face = heading_behind before face ++ set_line face
+face_lines last_face face = heading_behind last_face face ++ set_line face
 
 -- the lines of faces behind another
 abbrev pub lines_behind : Option Face → List Face → List ℕ
-lines_behind before [] = []
-lines_behind before (face ∷ more) = face_lines before face ++ lines_behind (Some face) more
+lines_behind last_face [] = []
+lines_behind last_face (face ∷ more) = face_lines last_face face ++ lines_behind (Some face) more
 
 unfoldable pub faces_lines : List Face → List ℕ
 faces_lines faces = codes "faces:\n" ++ lines_behind None faces

@@ -45,10 +45,10 @@ fn push_each<A: Allocator, P: Allocator>(
 ) -> Result<(), AllocError>
     ensures { OnOk result (text.new.items ≡ text.old.items ++ lines_behind None faces.now) }
 {
-    let mut before = None;
+    let mut last_face = None;
     for face in faces {
-        push_face(text, before, face)?;
-        before = Some(face);
+        push_face(text, last_face, face)?;
+        last_face = Some(face);
     }
     Ok(())
 }
@@ -57,13 +57,13 @@ fn push_each<A: Allocator, P: Allocator>(
 #[tactic(auto, unfolding(crate::specs::Faces::face_lines))]
 fn push_face<A: Allocator, P: Allocator>(
     text: &mut Vec<u8, A>,
-    before: Option<&FontRow<P>>,
+    last_face: Option<&FontRow<P>>,
     face: &FontRow<P>,
 ) -> Result<(), AllocError>
     ensures { OnOk result (text.new.items ≡
-        text.old.items ++ face_lines (option_copied before.entry) face.now) }
+        text.old.items ++ face_lines (option_copied last_face.entry) face.now) }
 {
-    push_heading_behind(text, before, face)?;
+    push_heading_behind(text, last_face, face)?;
     push_set_line(text, face)
 }
 
@@ -71,14 +71,14 @@ fn push_face<A: Allocator, P: Allocator>(
 #[tactic(auto, unfolding(crate::specs::Faces::heading_behind))]
 fn push_heading_behind<A: Allocator, P: Allocator>(
     text: &mut Vec<u8, A>,
-    before: Option<&FontRow<P>>,
+    last_face: Option<&FontRow<P>>,
     face: &FontRow<P>,
 ) -> Result<(), AllocError>
     ensures { OnOk result (text.new.items ≡
-        text.old.items ++ heading_behind (option_copied before.entry) face.now) }
+        text.old.items ++ heading_behind (option_copied last_face.entry) face.now) }
 {
-    match before {
-        Some(before) if is_alike(face, before) => Ok(()),
+    match last_face {
+        Some(last_face) if is_alike(face, last_face) => Ok(()),
         _ => push_heading(text, face),
     }
 }

@@ -13,12 +13,13 @@ use Rattle.preflight.specs.Wrong.{Wrong, wrong, found_or, findings_in, differenc
 use Rattle.preflight.proofs.Same.{same_events}
 
 -- a run does not differ from itself
-no_difference : (profile before : ℕ) (items : List ItemRun) → differences_in items profile before items ≡ []
-no_difference profile before [] = refl
-no_difference profile before (x ∷ items) =
-    ap (λ (same : Bool). cond same (differences_in items profile (before + 1) items) (wrong before x.place profile Differs ∷ []))
+no_difference : (profile count_before : ℕ) (items : List ItemRun) → differences_in items profile count_before items ≡ []
+no_difference profile count_before [] = refl
+no_difference profile count_before (x ∷ items) =
+    ap (λ (same : Bool). cond same (differences_in items profile (count_before + 1) items)
+    (wrong count_before x.place profile Differs ∷ []))
     (same_events x.events x.events refl)
-    ∙ no_difference profile (before + 1) items
+    ∙ no_difference profile (count_before + 1) items
 
 -- a finding with its place, or what there is without one
 abbrev told : Option (ℕ × Finding) → Verdict → Verdict
@@ -29,13 +30,13 @@ module _ (reading : Reading) (events : List Event) where
   abbrev by : List Wrong → Verdict
   by ws = verdict_by (soonest ws) reading events
 
-  findings_tell : (before : ℕ) (items : List ItemRun) →
-      by (findings_in 1 before items) ≡ told (finding_of items) (verdict_by None reading events)
-  findings_tell before [] = refl
-  findings_tell before (x ∷ items) = at x.finding (findings_tell (before + 1) items)
+  findings_tell : (count_before : ℕ) (items : List ItemRun) →
+      by (findings_in 1 count_before items) ≡ told (finding_of items) (verdict_by None reading events)
+  findings_tell count_before [] = refl
+  findings_tell count_before (x ∷ items) = at x.finding (findings_tell (count_before + 1) items)
     where
-      at : (found : Option Finding) → by (findings_in 1 (before + 1) items) ≡ told (finding_of items) (verdict_by None reading events)
-          → by (found_or 1 before x.place found (findings_in 1 (before + 1) items))
+      at : (found : Option Finding) → by (findings_in 1 (count_before + 1) items) ≡ told (finding_of items) (verdict_by None reading events)
+          → by (found_or 1 count_before x.place found (findings_in 1 (count_before + 1) items))
           ≡ told (found_at x.place found (finding_of items)) (verdict_by None reading events)
       at None later = later
       at (Some finding) later = refl

@@ -79,7 +79,8 @@ moved_entries panel request place due (item ∷ items) =
 
 -- a run that halts has an item that finds so
 abbrev HasItsFinding : JobRun → Type 0
-HasItsFinding r = (finding : Finding) → r.ending ≡ Halts finding → (before : ℕ) × (place : ℕ) × FindsBehind before place finding r.items
+HasItsFinding r = (finding : Finding) → r.ending ≡ Halts finding → (count_before : ℕ) × (place : ℕ) ×
+    FindsBehind count_before place finding r.items
 
 halts : (a b : Finding) → Halts a ≡ Halts b → Some a ≡ Some b
 halts a b e = cc

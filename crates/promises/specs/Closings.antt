@@ -13,8 +13,8 @@ use Rattle.page_machine.specs.Run.{Run, followed_by, finding_or, unset_or, Condi
 -- the first finding of a line, in the order of its checks and reads, or else this run
 abbrev pub judged_run : Settings → TableLine → Run → Run
 judged_run settings line run =
-    finding_or (first_finding line.before)
-    (unset_or (first_unset settings line.reads) (finding_or (first_finding line.after) run))
+    finding_or (first_finding line.checks_before)
+    (unset_or (first_unset settings line.reads) (finding_or (first_finding line.checks_after) run))
 
 -- ---- closings
 
@@ -25,7 +25,7 @@ is_overlaid _ = false
 -- the closing of a page as a line: 21 where its overlay has no level, 23 in an overlay, and what it reads
 abbrev pub closing_line : Printer → Nesting → State → TableLine
 closing_line printer nesting s = record (reading s closing_reads) {
-  before =
+  checks_before =
       check (not (is_overlaid nesting) && is_too_deep printer s) MacroDepth ∷ check (is_overlaid nesting) InMacro ∷ [];
 }
 
@@ -42,7 +42,7 @@ pub record ClosesInOrder (context : MacroContext) (nesting : Nesting) (s : State
 
 -- a line whose last check finds that the paper is fixed
 abbrev pub fixed_line : TableLine → TableLine
-fixed_line line = record line { before = line.before ++ check true InMacro ∷ [] }
+fixed_line line = record line { checks_before = line.checks_before ++ check true InMacro ∷ [] }
 
 -- Where the paper is fixed, that is found in its place behind the line's own checks, and nothing is closed.
 pub record IsFixedInOrder (conditions : Conditions) (s : State) (line : TableLine)

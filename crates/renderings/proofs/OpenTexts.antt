@@ -5,7 +5,7 @@ use Rattle.pcl_items.specs.declared.item.Mode.{Mode}
 use Rattle.pcl_lexer.specs.Lexing.Meaning.{Decides}
 use Rattle.pcl_lexer.specs.Lexing.State.{LexerState}
 use Rattle.pcl_lexer.proofs.Lexing.Steps.{decides}
-use Rattle.renderings.specs.Due.{Rendering, EndsText, IsOver, LeavesTextOpen}
+use Rattle.renderings.specs.Expected.{Rendering, EndsText, IsOver, LeavesTextOpen}
 use Rattle.renderings.specs.Carriers.Rendered.{RendersOn}
 use Rattle.streams.specs.Outlet.{OutletState}
 use Rattle.streams.specs.Pieces.{Spell}

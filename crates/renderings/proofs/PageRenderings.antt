@@ -22,7 +22,7 @@ use Rattle.renderings.specs.declared.outcome.Outcome.{Outcome}
 use Rattle.renderings.specs.declared.outcome.Outcome.TheVariants.{Done as AllDone, Fail}
 use Rattle.verdict.specs.declared.reason.Reason.TheVariants.{Finding as FindingOfRun}
 use Rattle.renderings.specs.declared.pages.PageText.{PageText}
-use Rattle.renderings.specs.Due.{Rendering, nothing_at_fault, pages_rendering}
+use Rattle.renderings.specs.Expected.{Rendering, nothing_at_fault, pages_rendering}
 use Rattle.streams.specs.Outlet.{OutletState, AddsFront}
 use Rattle.renderings.specs.PageTexts.{event_line, events_text, page_after, run_outcome}
 use Rattle.renderings.specs.Texts.{reading_outcome}
@@ -308,7 +308,7 @@ module _ {W A : Type 0} (state : W → OutletState) (machine : MachineState) (ol
   pub tells_refused : (x : Placed) (e : Error) → Refuses takes refuses old new (item_of machine x.item).run →
       Ended rendering (StartsWith x) (state old.outlet.now) (state new.outlet.now) old.kept.now.items new.kept.now.items (Err e)
   tells_refused x e refused =
-      let took = refused.before in
+      let took = refused.took in
       let h = led refused.mid took.events took.leads in
       let events_are :
       ((item_of machine x.item).run any_panel).events ≡ (took.events ++ refused.event ∷ []) ++ (refused.rest any_panel).events =
@@ -345,7 +345,7 @@ module _ {W A : Type 0} (state : W → OutletState) (machine : MachineState) (ol
       Ended rendering (λ reading. reading ≡ Whole [] place) (state old.outlet.now)
       (state new.outlet.now) old.kept.now.items new.kept.now.items (Err e)
   tells_end_refused place e refused =
-      let took = refused.before in
+      let took = refused.took in
       let h = led refused.mid took.events took.leads in
       let events_are : ((end_of machine).run any_panel).events ≡ (took.events ++ refused.event ∷ []) ++ (refused.rest any_panel).events =
       ap (λ (r : Run). r.events) (took.is any_panel)

@@ -7,7 +7,7 @@ use Rattle.pcl_lexer.specs.Modes.{mode_of}
 use Rattle.streams.specs.declared.error.Error.{Error}
 use Rattle.streams.specs.declared.error.Error.TheVariants.{Memory, Read, Write, Turns, NoProfile, Items}
 use Rattle.renderings.specs.declared.outcome.Outcome.{Outcome}
-use Rattle.renderings.specs.Due.{Rendering}
+use Rattle.renderings.specs.Expected.{Rendering}
 use Rattle.streams.specs.Errors.{is_err_of_write}
 use Rattle.streams.specs.Outlet.{OutletState}
 use Rattle.streams.specs.Pieces.{MayBeBy, Spell}

@@ -19,7 +19,7 @@ use Rattle.pcl_lexer.proofs.Reading.Readings.{one_reading}
 use Rattle.pcl_lexer.proofs.Lexing.Steps.{decides}
 use Rattle.streams.specs.declared.error.Error.{Error}
 use Rattle.renderings.specs.declared.outcome.Outcome.{Outcome}
-use Rattle.renderings.specs.Due.{Rendering, behind, list_rendering}
+use Rattle.renderings.specs.Expected.{Rendering, behind, list_rendering}
 use Rattle.streams.specs.Outlet.{OutletState, Adds, AddsFront}
 use Rattle.renderings.specs.Texts.{reading_outcome, list_text}
 use Rattle.line_words.specs.ItemLines.{item_line, fault_line}

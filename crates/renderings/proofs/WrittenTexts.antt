@@ -11,7 +11,7 @@ use Rattle.pcl_lexer.specs.Lexing.Meaning.{Decides, Undecided}
 use Rattle.pcl_lexer.specs.Reading.{Stopped, IsReading}
 use Rattle.pcl_lexer.proofs.Lexing.Steps.{decides}
 use Rattle.renderings.specs.declared.outcome.Outcome.{Outcome}
-use Rattle.renderings.specs.Due.{Rendering, TextNeedsReads, TextStaysOpen, TextWasOpen, WritesDue, WritesFront, WritesDecided}
+use Rattle.renderings.specs.Expected.{Rendering, TextNeedsReads, TextStaysOpen, TextWasOpen, WritesExpected, WritesFront, WritesDecided}
 use Rattle.streams.specs.declared.error.Error.{Error}
 use Rattle.streams.specs.declared.error.Error.TheVariants.{Memory, Read, Write, Turns, NoProfile, Items}
 use Rattle.streams.specs.Errors.{is_err_of_read}
@@ -25,7 +25,7 @@ use Rattle.renderings.proofs.Renderings.{Puts-all, rendered_front}
 -- the text is due for every job that may be by the pieces
 pub due_by : (first : Rendering) (start written : OutletState) (source source' : SourceState) (pieces : List (List ℕ)) (outcome : Outcome) →
     source'.given ≡ source.given ++ pieces → IfSome source.remaining (MayBeBy pieces) → IsRendered first start pieces written outcome →
-    TextNeedsReads first source source' → WritesDue first source source' start written outcome
+    TextNeedsReads first source source' → WritesExpected first source source' start written outcome
 due_by first start written source source' pieces outcome given_is known rendered needed = record {
   text = rendered.text;
   adds = rendered.adds;

@@ -1,6 +1,6 @@
 pub mod Outcomes
 pub mod Texts
 pub mod PageTexts
-pub mod Due
+pub mod Expected
 pub mod Pins
 pub mod Carriers

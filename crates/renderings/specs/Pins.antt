@@ -11,7 +11,7 @@ use Rattle.page_env.specs.Pinned.{is_unpinnable}
 use Rattle.page_machine.specs.Pinning.{written_before, written_behind, is_due_behind}
 use Rattle.verdict.specs.Failing.{unpinnable_at}
 use Rattle.renderings.specs.declared.outcome.Outcome.{Outcome}
-use Rattle.renderings.specs.Due.{Rendering, nothing_at_fault}
+use Rattle.renderings.specs.Expected.{Rendering, nothing_at_fault}
 use Rattle.renderings.specs.Outcomes.{fails_with}
 use Rattle.renderings.specs.Texts.{reading_outcome}
 

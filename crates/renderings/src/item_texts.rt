@@ -2,7 +2,7 @@
 ghost use Rattle.std.specs.Prelude.{◌≡◌, ◌++◌, ℕ, List, OnOk, refl};
 ghost use Rattle.pcl_items.specs.Items.{Placed, at, view};
 ghost use Rattle.renderings.specs.Carriers.Rests.{faults_matter};
-ghost use Rattle.renderings.specs.Due.{item_by_item};
+ghost use Rattle.renderings.specs.Expected.{item_by_item};
 
 use crate::outcome::Outcome;
 use crate::render::Renderer;

@@ -1,7 +1,7 @@
 //! The list of a job's items.
 ghost use Rattle.std.specs.Prelude.{IsFalse, refl};
 ghost use Rattle.renderings.specs.Carriers.Rests.{faults_matter};
-ghost use Rattle.renderings.specs.Due.{Renders, list_rendering};
+ghost use Rattle.renderings.specs.Expected.{Renders, list_rendering};
 
 use crate::outcome::Outcome;
 use crate::render::{Renderer, render_job};

@@ -5,7 +5,7 @@ ghost use Rattle.renderings.specs.Carriers.PageRendering.{pages_from, TakesLine,
 ghost use Rattle.renderings.specs.Carriers.Rendering.{IsErrorOfRendering};
 ghost use Rattle.renderings.specs.Carriers.Rests.{faults_matter};
 ghost use Rattle.streams.specs.Writing.{PutsKept};
-ghost use Rattle.renderings.specs.Due.{Renders, pages_rendering};
+ghost use Rattle.renderings.specs.Expected.{Renders, pages_rendering};
 ghost use Rattle.streams.specs.Errors.{is_err_of_write, is_write};
 
 use crate::outcome::Outcome;

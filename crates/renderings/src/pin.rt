@@ -13,7 +13,7 @@ ghost use Rattle.pcl_items.specs.Items.{Parameterized, SymbolSet, simple_view, v
 ghost use Rattle.pcl_items.specs.declared.pcl.command.Command.TheVariants.{FontWeight};
 ghost use Rattle.pcl_items.specs.Escapes.Value.{most};
 ghost use Rattle.renderings.specs.Carriers.Rests.{faults_matter};
-ghost use Rattle.renderings.specs.Due.{Renders};
+ghost use Rattle.renderings.specs.Expected.{Renders};
 ghost use Rattle.renderings.specs.Pins.{pinned_item, pins_from, pinned_rendering};
 
 use crate::outcome::Outcome;

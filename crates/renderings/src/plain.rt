@@ -1,7 +1,7 @@
 //! The items of a job in their canonical spelling.
 ghost use Rattle.std.specs.Prelude.{IsFalse};
 ghost use Rattle.pcl_items.specs.Spellings.Canon.{canon};
-ghost use Rattle.renderings.specs.Due.{Renders, plain_rendering};
+ghost use Rattle.renderings.specs.Expected.{Renders, plain_rendering};
 
 use crate::item_texts::{ItemByItem, ItemText};
 use crate::outcome::Outcome;

@@ -6,7 +6,7 @@ ghost use Rattle.pcl_items.specs.declared.item.Mode.TheVariants.{Pcl};
 ghost use Rattle.pcl_items.specs.Items.{at, view};
 ghost use Rattle.pcl_lexer.specs.Modes.{mode_of};
 ghost use Rattle.pcl_lexer.specs.Reading.{Whole, Stopped};
-ghost use Rattle.renderings.specs.Due.{IsOver, Renders, Rendering};
+ghost use Rattle.renderings.specs.Expected.{IsOver, Renders, Rendering};
 ghost use Rattle.streams.specs.Errors.{is_err_of_write};
 ghost use Rattle.renderings.specs.Carriers.Rendering.{MayCome, RendersItem, Ended, StaysIn};
 ghost use Rattle.renderings.specs.Carriers.Rendering.{RendersDecided, GoesOn, IsErrorOfRendering};

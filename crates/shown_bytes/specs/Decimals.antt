@@ -30,13 +30,13 @@ with_four_decimals n = decimal (n / 10_000) ++ (if n % 10_000 == 0 then [] else 
 -- ---- no more decimals than are needed
 
 -- a digit before others, but no zero at the end
-abbrev pub before : ℕ → List ℕ → List ℕ
-before d [] = if d == 48 then [] else d ∷ []
-before d (e ∷ ds) = d ∷ e ∷ ds
+abbrev pub digit_before : ℕ → List ℕ → List ℕ
+digit_before d [] = if d == 48 then [] else d ∷ []
+digit_before d (e ∷ ds) = d ∷ e ∷ ds
 
 abbrev pub without_zeros : List ℕ → List ℕ
 without_zeros [] = []
-without_zeros (d ∷ ds) = before d (without_zeros ds)
+without_zeros (d ∷ ds) = digit_before d (without_zeros ds)
 
 -- a point before decimals, where there are some
 abbrev pub with_point : List ℕ → List ℕ

@@ -43,7 +43,7 @@ module _ {C : Type 0} (goes_on : C → List ℕ → C → Type 0) (stops : C →
     -- all that was read left it open
     open_now : OpenBefore goes_on first way.pieces
     open_now = record {
-      before = way.pieces;
+      pieces_before = way.pieces;
       last = [];
       split = sym (append-nil way.pieces);
       at_most_one = omega arith;
@@ -107,7 +107,7 @@ module _ {C : Type 0} (goes_on : C → List ℕ → C → Type 0) (stops : C →
           consumed = all_consumed;
           spelled = own_error (Spell (way.pieces ++ piece ∷ []) (way.bytes ++ piece)) (λ e. ⊤) error tt own;
           was_open = record {
-            before = way.pieces;
+            pieces_before = way.pieces;
             last = piece ∷ [];
             split = refl;
             at_most_one = omega arith;
@@ -149,7 +149,7 @@ module _ {C : Type 0} (goes_on : C → List ℕ → C → Type 0) (stops : C →
               came ≡ Some answer → ComesByPiece goes_on answers stops first way.bytes piece next (Ok came) →
               IsAnswered goes_on answers first next answer source after
           answered_by_piece answers next came answer is h = record {
-            before = way.pieces;
+            pieces_before = way.pieces;
             last = piece;
             given_is = all_given;
             short = short;
@@ -184,7 +184,7 @@ module _ {C : Type 0} (goes_on : C → List ℕ → C → Type 0) (stops : C →
             IfOk result (λ answer. IsAnswered goes_on answers first next answer source after)
         answered_by_end answers next (Err error) at_end h = tt
         answered_by_end answers next (Ok answer) at_end h = record {
-          before = way.pieces;
+          pieces_before = way.pieces;
           last = [];
           given_is =
               given_more source.given mid.given after.given way.pieces [] way.given_is (given_is ∙ ap (λ l. mid.given ++ l ∷ []) no_byte);

@@ -51,16 +51,16 @@ pub record IsUnderWay {C : Type 0} (goes_on : C → List ℕ → C → Type 0) (
 -- The answer on every job that may be by what the reads gave. What those before the last one gave left it open.
 pub record IsAnswered {C A : Type 0} (goes_on : C → List ℕ → C → Type 0) (answers : C → A → List (List ℕ) → C → Type 0)
     (first now : C) (answer : A) (source source' : SourceState) : Type 0 where
-  pub before : List (List ℕ)
+  pub pieces_before : List (List ℕ)
   pub last : List ℕ
-  pub given_is : source'.given ≡ source.given ++ (before ++ last ∷ [])
+  pub given_is : source'.given ≡ source.given ++ (pieces_before ++ last ∷ [])
   pub short : length last ≤ 4096
   pub bytes : List ℕ
-  pub spelled : Spell before bytes
+  pub spelled : Spell pieces_before bytes
   pub between : C
   pub left_open : goes_on first bytes between
-  pub answered : answers first answer (before ++ last ∷ []) now
-  pub known : IfSome source.remaining (MayBeBy (before ++ last ∷ []))
+  pub answered : answers first answer (pieces_before ++ last ∷ []) now
+  pub known : IfSome source.remaining (MayBeBy (pieces_before ++ last ∷ []))
 
 -- whose error it was: that of what takes the pieces, or of the reads, where the bytes before leave the answer open
 abbrev pub StopsBy : Type 0 → (Error → Type 0) → Error → Type 0
@@ -74,12 +74,12 @@ StopsBy Open Stops Items = ⊥
 -- what the reads before the last one gave, or what all gave, left the answer open
 pub record OpenBefore {C : Type 0} (goes_on : C → List ℕ → C → Type 0) (first : C)
     (pieces : List (List ℕ)) : Type 0 where
-  pub before : List (List ℕ)
+  pub pieces_before : List (List ℕ)
   pub last : List (List ℕ)
-  pub split : pieces ≡ before ++ last
+  pub split : pieces ≡ pieces_before ++ last
   pub at_most_one : length last ≤ 1
   pub bytes : List ℕ
-  pub spelled : Spell before bytes
+  pub spelled : Spell pieces_before bytes
   pub between : C
   pub left_open : goes_on first bytes between
 

@@ -6,7 +6,7 @@ use Rattle.device_profile.specs.Printer.{Printer, first_panel}
 use Rattle.streams.specs.declared.error.Error.{Error}
 use Rattle.streams.specs.declared.error.Error.TheVariants.{Memory, Read, Write, Turns, NoProfile, Items}
 use Rattle.renderings.specs.declared.outcome.Outcome.{Outcome}
-use Rattle.renderings.specs.Due.{IsDue, Renders, TextNeedsReads, WritesFront}
+use Rattle.renderings.specs.Expected.{IsExpected, Renders, TextNeedsReads, WritesFront}
 use Rattle.streams.specs.Errors.{is_read, is_write}
 use Rattle.streams.specs.Outlet.{OutletState, Adds}
 use Rattle.streams.specs.Pieces.{ByReads}
@@ -157,7 +157,8 @@ noted_of printer limited panel job job' kept kept' work is first rendered =
 module _ (IsPrinter : Printer → Type 0) (printer : Printer) (named : IsPrinter printer) (job job' : SourceState) where
   -- the job was gone through
   pub told_left : (status : Status) (text : List ℕ) (outcome : Outcome) (old new : OutletState) →
-      ByReads job job' (λ bytes. IsDue (noted note_line printer) bytes text outcome) → TextNeedsReads (noted note_line printer) job job' →
+      ByReads job job' (λ bytes. IsExpected (noted note_line printer) bytes text outcome) →
+      TextNeedsReads (noted note_line printer) job job' →
       EndsNotes status (text ++ outcome_line outcome) old new →
       LeavesNotes status IsPrinter job job' old new
   told_left Pass text outcome old new due needed ends =

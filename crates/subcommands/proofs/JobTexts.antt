@@ -10,7 +10,7 @@ use Rattle.streams.specs.declared.error.Error.{Error}
 use Rattle.streams.specs.declared.error.Error.TheVariants.{Memory, Read, Write, Turns, NoProfile, Items}
 use Rattle.renderings.specs.declared.outcome.Outcome.{Outcome}
 use Rattle.renderings.specs.declared.outcome.Outcome.TheVariants.{Done, Fail as FailsOf}
-use Rattle.renderings.specs.Due.{Rendering, IsOver, LeavesTextOpen, Renders, WritesDue, WritesFront}
+use Rattle.renderings.specs.Expected.{Rendering, IsOver, LeavesTextOpen, Renders, WritesExpected, WritesFront}
 use Rattle.renderings.proofs.Renderings.{behind_none, nothing_decided}
 use Rattle.std.specs.Prelude.{IsFalse, OnOk, ◌||◌}
 use Rattle.std.proofs.Math.Bool.{or-false}
@@ -82,7 +82,7 @@ stopped_within Items rendering job job' old new start known unlimited front = ab
 
 -- the whole text stands there, and its outcome was told
 pub told : (outcome : Outcome) (status : Status) (rendering : Rendering) (job job' : SourceState) (old new start end : OutletState) →
-    WritesDue rendering job job' old new outcome → LeavesLine outcome status start end →
+    WritesExpected rendering job job' old new outcome → LeavesLine outcome status start end →
     LeavesTextAndLine status rendering job job' old new start end
 told Done Pass rendering job job' old new start end stands line = (stands, line)
 told Done Fail rendering job job' old new start end stands line = absurd line

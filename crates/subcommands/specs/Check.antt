@@ -18,16 +18,20 @@ use Rattle.job_reports.specs.Right.{IsRightVerdict}
 -- the texts of profiles: those that are known, in order, and those that were read before and after
 pub record Texts : Type 0 where
   pub known : List (Option (List ℕ))
-  pub before : List (List ℕ)
-  pub after : List (List ℕ)
+  pub given_before : List (List ℕ)
+  pub given_after : List (List ℕ)
 
 abbrev pub texts_by : List (Option (List ℕ)) → List (List ℕ) → List (List ℕ) → Texts
-texts_by known before after = record { known = known; before = before; after = after }
+texts_by known given_before given_after = record {
+  known = known;
+  given_before = given_before;
+  given_after = given_after;
+}
 
 -- the verdict is right for a fleet that the texts of its profiles describe
 abbrev pub IsRightFor : Texts → SourceState → SourceState → Verdict → Type 0
 IsRightFor texts job job' verdict =
-    (fleet : List Printer) × DescribeFleet texts.known fleet × DescribeBy texts.before texts.after fleet
+    (fleet : List Printer) × DescribeFleet texts.known fleet × DescribeBy texts.given_before texts.given_after fleet
     × IsRightVerdict job job' fleet verdict
 
 -- where a write failed, a front of the line of a verdict with this fact stands there, and otherwise nothing new

@@ -4,7 +4,7 @@ use Rattle.device_profile.specs.Printer.{Printer, first_panel}
 use Rattle.streams.specs.declared.error.Error.TheVariants.{Memory, Write, NoProfile, Items}
 use Rattle.renderings.specs.declared.outcome.Outcome.{Outcome}
 use Rattle.renderings.specs.declared.outcome.Outcome.TheVariants.{Done, Fail as FailsOf}
-use Rattle.renderings.specs.Due.{Rendering, IsDue, TextNeedsReads, WritesFront}
+use Rattle.renderings.specs.Expected.{Rendering, IsExpected, TextNeedsReads, WritesFront}
 use Rattle.streams.specs.Outlet.{OutletState, Adds, AddsFront}
 use Rattle.streams.specs.Pieces.{ByReads}
 use Rattle.streams.specs.Source.{SourceState}
@@ -32,10 +32,10 @@ status_of_text (byte ∷ bytes) = Fail
 
 -- A text and an outcome, of every job that may be by what the reads gave, of which each was needed;
 -- and of it with the line of the outcome this holds.
-pub record TellsDue (rendering : Rendering) (job job' : SourceState) (P : List ℕ → Type 0) : Type 0 where
+pub record TellsExpected (rendering : Rendering) (job job' : SourceState) (P : List ℕ → Type 0) : Type 0 where
   pub text : List ℕ
   pub outcome : Outcome
-  pub due : ByReads job job' (λ bytes. IsDue rendering bytes text outcome)
+  pub due : ByReads job job' (λ bytes. IsExpected rendering bytes text outcome)
   pub needed : TextNeedsReads rendering job job'
   pub told : P (text ++ outcome_line outcome)
 
@@ -57,10 +57,10 @@ abbrev pub LeavesNotesOf : Status → (Printer → Type 0) → SourceState → S
 LeavesNotesOf (Stopped error) IsPrinter job job' old new =
     (error ≢ NoProfile) × (error ≢ Items) × (printer : Printer) × IsPrinter printer
     × (WritesFront (noted note_line printer) job job' old new
-    ⊎ TellsDue (noted note_line printer) job job' (AddsFront old new))
+    ⊎ TellsExpected (noted note_line printer) job job' (AddsFront old new))
 LeavesNotesOf status IsPrinter job job' old new =
     (printer : Printer) × IsPrinter printer
-    × TellsDue (noted note_line printer) job job' (Told status old new)
+    × TellsExpected (noted note_line printer) job job' (Told status old new)
 
 -- what `notes` leaves on standard output where it ends by this status
 abbrev pub LeavesNotes : Status → (Printer → Type 0) → SourceState → SourceState → OutletState → OutletState → Type 0

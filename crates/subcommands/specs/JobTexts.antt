@@ -10,7 +10,7 @@ use Rattle.verdict.specs.Failing.{failing}
 use Rattle.verdict.specs.declared.failure.Failure.{Failure}
 use Rattle.verdict.specs.declared.reason.Reason.{Reason}
 use Rattle.verdict.specs.declared.verdict.Verdict.TheVariants.{Fail as FailOf}
-use Rattle.renderings.specs.Due.{Rendering, WritesDue, WritesFront, pages_rendering}
+use Rattle.renderings.specs.Expected.{Rendering, WritesExpected, WritesFront, pages_rendering}
 use Rattle.renderings.specs.Outcomes.{fails_with}
 use Rattle.renderings.specs.Pins.{pinned_rendering}
 use Rattle.streams.specs.Outlet.{OutletState, Adds, AddsFront, Stays}
@@ -38,14 +38,15 @@ pub record EndsBy (status : Status) (Left : SourceState → SourceState → Type
 abbrev pub StandsUpToFailure : Rendering → SourceState → SourceState → OutletState → OutletState → (List ℕ → Type 0) →
     Type 0
 StandsUpToFailure rendering job job' old new P =
-    (failure : Failure) × WritesDue rendering job job' old new (fails_with failure) × P (verdict_line (failing failure))
+    (failure : Failure) × WritesExpected rendering job job' old new (fails_with failure) ×
+    P (verdict_line (failing failure))
 
 -- what a subcommand that ends by this status leaves of a text alone
 abbrev pub LeavesText : Status → Rendering → SourceState → SourceState → OutletState → OutletState → Type 0
-LeavesText Pass rendering job job' old new = WritesDue rendering job job' old new Done
+LeavesText Pass rendering job job' old new = WritesExpected rendering job job' old new Done
 LeavesText Fail rendering job job' old new =
     (place : ℕ) × (profile : ℕ) × (finding : Reason)
-    × WritesDue rendering job job' old new (FailsOf place profile finding)
+    × WritesExpected rendering job job' old new (FailsOf place profile finding)
 LeavesText Help rendering job job' old new = ⊥
 LeavesText Usage rendering job job' old new = ⊥
 LeavesText (Overwrites input) rendering job job' old new = ⊥
@@ -75,7 +76,7 @@ LeavesAtStopBeside Items rendering job job' old new start end = ⊥
 abbrev pub LeavesTextAndLine : Status → Rendering → SourceState → SourceState → OutletState → OutletState →
     OutletState → OutletState → Type 0
 LeavesTextAndLine Pass rendering job job' old new start end =
-    WritesDue rendering job job' old new Done × Stays start end
+    WritesExpected rendering job job' old new Done × Stays start end
 LeavesTextAndLine Fail rendering job job' old new start end =
     StandsUpToFailure rendering job job' old new (Adds start end)
 LeavesTextAndLine Help rendering job job' old new start end = ⊥
@@ -156,8 +157,9 @@ LeavesPinned status IsPrinter choices job job' old new start end =
 -- text was read, and that is what is wrong with it; and where it is refused or could not be read, the job is as it was.
 abbrev pub JudgesFirst : {Job : Type 0} → Status → Option (List ℕ) → List (List ℕ) → List (List ℕ) → Bool → Job → Job →
     Type 0
-JudgesFirst status text before after failed job job' =
-    RefusesOne text status × RefusesRead before after 1 status × (IsTrue (is_refusal status || failed) → job' ≡ job)
+JudgesFirst status text given_before given_after failed job job' =
+    RefusesOne text status × RefusesRead given_before given_after 1 status ×
+    (IsTrue (is_refusal status || failed) → job' ≡ job)
 
 -- OUT is created once the job is open: it is as it was, or the job was opened;
 -- and it was created where the command has an answer, also for a job of no items

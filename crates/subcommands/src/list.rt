@@ -1,6 +1,6 @@
 //! The command `list`.
 ghost use Rattle.std.specs.Prelude.{IsFalse};
-ghost use Rattle.renderings.specs.Due.{list_rendering};
+ghost use Rattle.renderings.specs.Expected.{list_rendering};
 ghost use Rattle.subcommands.specs.JobTexts.{EndsBy, LeavesText};
 
 use crate::render::render;

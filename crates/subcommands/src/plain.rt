@@ -1,6 +1,6 @@
 //! The command `plain`.
 ghost use Rattle.std.specs.Prelude.{◌≡◌, ◌||◌, IsFalse, IsSome, IsTrue};
-ghost use Rattle.renderings.specs.Due.{plain_rendering};
+ghost use Rattle.renderings.specs.Expected.{plain_rendering};
 ghost use Rattle.subcommands.specs.JobTexts.{CreatesOnceOpen, EndsBy, LeavesOut};
 ghost use Rattle.requests.specs.Status.{is_overwriting};
 

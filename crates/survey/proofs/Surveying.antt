@@ -164,10 +164,10 @@ pub job_tallied : (begun now : SurveyState) (job : ℕ) (tally : Tally) (old new
     IfOk r (λ _. IsTallied old new job tally now.tally)
 job_tallied begun now job tally old new r is h =
     answer_gives r h (λ answer came.
-    let all = subst (λ (s : SurveyState). IsSurveyed s (came.before ++ came.last ∷ []) now) is came.answered in (
+    let all = subst (λ (s : SurveyState). IsSurveyed s (came.pieces_before ++ came.last ∷ []) now) is came.answered in (
       all.told,
       record {
-        pieces = came.before ++ came.last ∷ [];
+        pieces = came.pieces_before ++ came.last ∷ [];
         given = came.given_is;
         each = all.tells;
         known = came.known;

@@ -10,12 +10,12 @@ use Rattle.survey.specs.Tally.{Tally, tallied}
 
 -- these are told of the job that was read, whichever it may be
 abbrev pub IsToldOf : SourceState → SourceState → List Refusal → Type 0
-IsToldOf before after told = ByReads before after (λ job. IsSurvey job told)
+IsToldOf source source' told = ByReads source source' (λ job. IsSurvey job told)
 
 -- what is told of the job of this number is counted
 abbrev pub IsTallied : SourceState → SourceState → ℕ → Tally → Tally → Type 0
-IsTallied before after number old new =
-    (told : List Refusal) × IsToldOf before after told × (new ≡ tallied number told old)
+IsTallied source source' number old new =
+    (told : List Refusal) × IsToldOf source source' told × (new ≡ tallied number told old)
 
 -- why a job was not read to its end
 abbrev pub IsErrorOfSurvey : Error → Type 0

@@ -226,10 +226,10 @@ fn front_of(len: u8, text: &[u8]) -> &[u8]
 }
 
 /// The byte of a text behind so many others, or 0.
-pub(crate) fn byte_at(text: &[u8], before: u8) -> u8
-    ensures { result ≡ get_or text.now before 0 }
+pub(crate) fn byte_at(text: &[u8], index: u8) -> u8
+    ensures { result ≡ get_or text.now index 0 }
 {
-    match text.get(usize::from(before)) {
+    match text.get(usize::from(index)) {
         Some(byte) => *byte,
         None => 0,
     }

@@ -3,9 +3,9 @@
 #![tactic(auto)]
 
 #[cfg(test)]
-mod culprits;
-#[cfg(test)]
 mod cut_texts;
+#[cfg(test)]
+mod failing_items;
 #[cfg(test)]
 mod jobs;
 #[cfg(test)]

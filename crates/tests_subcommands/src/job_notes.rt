@@ -43,7 +43,7 @@ impl Ending {
 }
 
 /// The lines of a job's notes, and how it ends.
-type Due = (&'static [u8], Ending);
+type Expected = (&'static [u8], Ending);
 
 /// How many items macros may carry out, a job on sample B, the lines of its notes, and how it ends.
 type NotesRow = (u64, &'static [u8], &'static [u8], Ending);
@@ -146,7 +146,7 @@ fn assert_notes<S: Source>(
     profile: &Profile,
     source: &mut S,
     job: &[u8],
-    due: Due,
+    due: Expected,
 )
     requires { IsFalse (S.state source.old).failed }
 {
@@ -162,7 +162,7 @@ fn assert_notes<S: Source>(
 }
 
 /// Of a job that is read whole, byte by byte, and in two pieces that are cut at each place.
-fn check_notes(rt: &impl Abort, alloc: Global, profile: &Profile, job: &[u8], due: Due) {
+fn check_notes(rt: &impl Abort, alloc: Global, profile: &Profile, job: &[u8], due: Expected) {
     assert_notes(rt, alloc, profile, &mut Latched::new(job), job, due);
     let mut bytes = FailingSource::new(job, u64::MAX);
     assert_notes(rt, alloc, profile, &mut bytes, job, due);

@@ -4,7 +4,7 @@ use Rattle.pcl_lexer.specs.Reading.{Reading}
 use Rattle.page_env.specs.Settings.{settings_at, state_at}
 use Rattle.page_machine.specs.MachineState.{MachineState}
 use Rattle.renderings.specs.Carriers.PageRendering.{any_panel}
-use Rattle.renderings.specs.Due.{Rendering}
+use Rattle.renderings.specs.Expected.{Rendering}
 use Rattle.job_picture.specs.declared.progress.Progress.{Progress}
 use Rattle.requests.specs.declared.selection.Selection.{Selection}
 use Rattle.job_picture.specs.JobPicture.{Drawing, fault_behind, reading_drawing, started_behind, then_draws}

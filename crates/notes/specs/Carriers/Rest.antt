@@ -11,7 +11,7 @@ use Rattle.page_machine.specs.Defining.{job_item_run, macros_after}
 use Rattle.page_machine.specs.Job.{JobRun, events_of, reading_run, with_macros}
 use Rattle.page_machine.specs.MachineState.{MachineState}
 use Rattle.renderings.specs.declared.outcome.Outcome.{Outcome}
-use Rattle.renderings.specs.Due.{Rendering, nothing_at_fault}
+use Rattle.renderings.specs.Expected.{Rendering, nothing_at_fault}
 use Rattle.renderings.specs.PageTexts.{run_outcome}
 use Rattle.renderings.specs.Texts.{reading_outcome}
 use Rattle.notes.specs.declared.closing.Closing.{Closing}

@@ -33,13 +33,13 @@ state_before_at machine panel item =
 
 -- the notes of an item by what was kept and the state behind it
 abbrev pub before_notes : Placed → State → StateBefore → List Told
-before_notes x t before =
-    told_if (before.sets_same_orientation && (before.has_spacing || not (before.vmi == t.settings.fields.vmi))) x.place
+before_notes x t stood =
+    told_if (stood.sets_same_orientation && (stood.has_spacing || not (stood.vmi == t.settings.fields.vmi))) x.place
     SameOrientation
-    ++ told_if before.is_rounded x.place RoundedColumn
-    ++ told_if (before.has_rows_left && (is_none t.raster || not (is_of_raster x.item))) x.place ShortRaster
-    ++ told_if (before.feeds_blank && is_none t.cursor.y) x.place BlankOverflow
-    ++ told_if before.has_margin x.place SourceMovesLeft
+    ++ told_if stood.is_rounded x.place RoundedColumn
+    ++ told_if (stood.has_rows_left && (is_none t.raster || not (is_of_raster x.item))) x.place ShortRaster
+    ++ told_if (stood.feeds_blank && is_none t.cursor.y) x.place BlankOverflow
+    ++ told_if stood.has_margin x.place SourceMovesLeft
 
 abbrev pub behind_notes : Placed → State → Option StateBefore → List Told
-behind_notes x t before = option_map_or (before_notes x t) before []
+behind_notes x t stood = option_map_or (before_notes x t) stood []

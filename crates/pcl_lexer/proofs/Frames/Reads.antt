@@ -50,9 +50,9 @@ use Rattle.pcl_items.specs.PjlLines.Exit.{exit_field, exit_text, BeginsExit, beg
 use Rattle.pcl_lexer.proofs.Frames.Heads.{Counts, counts_byte, counts_more, drop_field}
 
 -- what stands before what is written of a command, and where the reader stands within it
-abbrev pub before : Start → Context
-before AtLetters = Frame
-before (BehindPair motion) = Numbered (Even motion) gaps.Straight 0
+abbrev pub context_before : Start → Context
+context_before AtLetters = Frame
+context_before (BehindPair motion) = Numbered (Even motion) gaps.Straight 0
 
 abbrev pub context_of : Part → ℕ → Context
 context_of (Word m) n = Letters m n
@@ -122,7 +122,7 @@ step_on {e = e} {start = start} text more rest h f =
 
 record BegunRead (whole : Bool) (from_start : Start) (part : Part) (from : ℕ) (text rest : List ℕ) (start : ℕ) : Type 0 where
   n : ℕ
-  reads : ReadsTo whole (before from_start) start (text ++ rest) [] (context_of part n) (start + length text) rest
+  reads : ReadsTo whole (context_before from_start) start (text ++ rest) [] (context_of part n) (start + length text) rest
   counts : Counted part n from text
 
 pub decided_behind : (whole : Bool) (b : ℕ) (rest : List ℕ) → IsDecided whole (b ∷ rest)
@@ -301,7 +301,8 @@ whole_place _ _ n from start text (with_number h) count = omega (arith, count)
 -- a pair
 pub pair_read : {s : Start} {motion : Motion} {to : ℤ × ℤ} {from : ℕ} {text rest : List ℕ} (whole : Bool) (place : ℕ) →
     IsDecided whole rest → EndsPair s motion to from text rest →
-    ReadsTo whole (before s) place (text ++ rest) (at (place + from) (Move motion (Some to)) ∷ []) (before (BehindPair motion))
+    ReadsTo whole (context_before s) place (text ++ rest) (at (place + from) (Move motion (Some to)) ∷ [])
+    (context_before (BehindPair motion))
     (place + length text) rest
 pair_read {s = s} whole place d
     (second_coordinate {motion = motion} {gap = gap} {x = x} {y = y} {from = from} {text = text} {number = number}
@@ -316,7 +317,7 @@ pair_read {s = s} whole place d
     begins item (length number) (Numbered (Even motion) gaps.Straight 0) (coordinate_second whole motion gap x y r.n number rest d f h ends)
     (ReadsTo-at refl (sym (drop-append_seam number rest)) size here) in
     subst
-    (λ (p : ℕ). ReadsTo whole (before s) place ((text ++ number) ++ rest) (at p item ∷ []) (Numbered (Even motion) gaps.Straight 0)
+    (λ (p : ℕ). ReadsTo whole (context_before s) place ((text ++ number) ++ rest) (at p item ∷ []) (Numbered (Even motion) gaps.Straight 0)
     (place + length (text ++ number)) rest)
     stands
     (ReadsTo-at refl (sym (append_assoc text number rest)) refl (ReadsTo-append r.reads last))
@@ -328,14 +329,14 @@ decided_before {text = b ∷ text} {rest = rest} whole d h = decided_behind whol
 
 pub command_reads : {s : Start} {place : ℕ} {text rest : List ℕ} {items : List Placed} (whole : Bool) → IsDecided whole rest →
     IsCommand s place text rest items →
-    ReadsTo whole (before s) place (text ++ rest) items Frame (place + length text) rest
+    ReadsTo whole (context_before s) place (text ++ rest) items Frame (place + length text) rest
 command_reads {s = s} whole d
     (without_pairs {part = part} {place = place} {from = from} {text = text} {rest = rest} {item = item} begun w ends) =
     let r = begun_read whole place d begun in
     let last : ReadsTo whole (context_of part r.n) (place + length text) rest
     (at (item_place (context_of part r.n) (place + length text)) item ∷ []) Frame (place + length text) rest =
     begins item 0 Frame (whole_read whole part item r.n rest d w ends) (ReadsTo-at (omega arith) refl refl here) in
-    subst (λ (p : ℕ). ReadsTo whole (before s) place (text ++ rest) (at p item ∷ []) Frame (place + length text) rest)
+    subst (λ (p : ℕ). ReadsTo whole (context_before s) place (text ++ rest) (at p item ∷ []) Frame (place + length text) rest)
     (whole_place part item r.n from place text w r.counts) (ReadsTo-append r.reads last)
 command_reads whole d (pair {place = place} {text = text} {more = more} {rest = rest} p c) =
     let size : place + length text + length more ≡ place + length (text ++ more) = omega (arith, length-append text more) in
@@ -569,7 +570,7 @@ pub record FaultRead (s : Start) (place from : ℕ) (bytes : List ℕ) (cause : 
   pub context : Context
   pub end : ℕ
   pub rest : List ℕ
-  pub reads : ReadsTo true (before s) place bytes [] context end rest
+  pub reads : ReadsTo true (context_before s) place bytes [] context end rest
   pub stands : place + from ≡ item_place context end
   pub fault : IsFault true (first_of true context rest) context rest cause
 

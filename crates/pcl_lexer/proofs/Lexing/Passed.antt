@@ -68,7 +68,7 @@ passed window at dropped Pcl ended held n some short h =
           let same : length (drop (at + n) window) ≡ length (drop n rest) = ap length (sym (drop-drop n at window)) in
           omega (arith, left, same, short);
       ended = refl;
-      before = refl;
-      behind = refl;
+      begins_in_pcl = refl;
+      ends_in_pcl = refl;
       held = refl;
     }

@@ -40,7 +40,7 @@ use Rattle.pcl_lexer.proofs.Reading.Agreement as agreement
 use Rattle.pcl_lexer.proofs.Reading.Agreement.{spelled_read, unit_otherwise, otherwise_begun, drop_three, combined_read}
 use Rattle.pcl_lexer.proofs.Frames.Heads.{InPcl, InPjl, In, Motive, Closed, Counts, Landing, passed, begun_item, frame_told, letters_tell}
 use Rattle.pcl_lexer.proofs.Frames.Heads.{numbers_tell}
-use Rattle.pcl_lexer.proofs.Frames.Reads.{before, pair_read, fault_read}
+use Rattle.pcl_lexer.proofs.Frames.Reads.{context_before, pair_read, fault_read}
 use Rattle.pcl_lexer.proofs.Reading.FaultPlaces.{FaultInPjl, in_line, in_pcl, HasRule, fault_has_rule, unit_rule_read, command_rule_read}
 use Rattle.pcl_lexer.proofs.Reading.FaultPlaces.{line_rule_read, by_pcl}
 
@@ -389,7 +389,7 @@ commands_reach (behind {place = place} {field = field} {bytes = bytes} {amount =
     }
 
 frame_reach : {start : Start} {place : ℕ} {bytes : List ℕ} {items : List Placed} {stop : ℕ} {cause : LexCause} →
-    FrameStops start place bytes items stop cause → Reached (before start) place bytes items stop cause
+    FrameStops start place bytes items stop cause → Reached (context_before start) place bytes items stop cause
 frame_reach (at_fault {place = place} h) =
     let r = fault_read place h in
     record { context = r.context; end = r.end; rest = r.rest; reads = r.reads; stands = r.stands; fault = r.fault }

@@ -38,11 +38,11 @@ unfoldable pub field_at : List ℕ → Field
 field_at bytes =
     let sign = sign_at bytes in
     let whole = digits (drop (sign_len sign) bytes) in
-    let before = sign_len sign + length whole in
-    let decimals = digits (drop (before + 1) bytes) in
-    if has_point (drop before bytes)
-    then record { sign = sign; whole = whole; decimals = decimals; len = before + 1 + length decimals }
-    else record { sign = sign; whole = whole; decimals = []; len = before }
+    let point_at = sign_len sign + length whole in
+    let decimals = digits (drop (point_at + 1) bytes) in
+    if has_point (drop point_at bytes)
+    then record { sign = sign; whole = whole; decimals = decimals; len = point_at + 1 + length decimals }
+    else record { sign = sign; whole = whole; decimals = []; len = point_at }
 
 abbrev pub next_digit : ℕ → ℕ → ℕ
 next_digit n d = 10 * n + (d - 48)

@@ -11,6 +11,7 @@ abbrev pub ahead_in : Context → List ℕ → List ℕ
 ahead_in Pcl rest = rest
 ahead_in context rest = []
 
+-- the bytes that a lexer has not read yet, where an item may begin
 abbrev pub ahead_of : LexerState → List ℕ
 ahead_of lexer = ahead_in lexer.context lexer.rest
 
@@ -23,6 +24,6 @@ pub record ReadsLines (old : LexerState) (codes : List ℕ) (new : LexerState) :
   pub place : new.place ≡ old.place + length codes
   pub total : new.place + length new.rest ≡ old.place + length old.rest
   pub ended : new.ended ≡ old.ended
-  pub before : old.context ≡ Pcl
-  pub behind : new.context ≡ Pcl
+  pub begins_in_pcl : old.context ≡ Pcl
+  pub ends_in_pcl : new.context ≡ Pcl
   pub held : new.held ≡ old.held

@@ -30,7 +30,8 @@ EndsSolid (b ∷ c ∷ bytes) = EndsSolid (c ∷ bytes)
 
 -- an equals sign, with blanks about it or none
 pub data IsEquals : List ℕ → Type 0 where
-  equals : (before after : List ℕ) → AreBlanks before → AreBlanks after → IsEquals (before ++ 61 ∷ after)
+  equals : (blanks_before blanks_after : List ℕ) → AreBlanks blanks_before → AreBlanks blanks_after →
+      IsEquals (blanks_before ++ 61 ∷ blanks_after)
 
 -- the names that a part may have
 abbrev pub IsName : Word → List ℕ → Type 0
@@ -72,6 +73,7 @@ pub data AreWords : List ℕ → PjlCommand → Type 0 where
 -- a line without its newline
 pub data IsPjlCommand : List ℕ → PjlCommand → Type 0 where
   bare : (blanks : List ℕ) → AreBlanks blanks → IsPjlCommand (prefix ++ blanks) Bare
-  worded : {words : List ℕ} {line : PjlCommand} (b : ℕ) (before after : List ℕ) → is_blank b ≡ true → AreBlanks before →
-      AreWords words line → EndsSolid words → AreBlanks after →
-      IsPjlCommand (prefix ++ b ∷ (before ++ (words ++ after))) line
+  worded : {words : List ℕ} {line : PjlCommand} (b : ℕ) (blanks_before blanks_after : List ℕ) → is_blank b ≡ true →
+      AreBlanks blanks_before →
+      AreWords words line → EndsSolid words → AreBlanks blanks_after →
+      IsPjlCommand (prefix ++ b ∷ (blanks_before ++ (words ++ blanks_after))) line

@@ -23,7 +23,7 @@ use Rattle.pcl_lexer.specs.Grammar.{control_code, two_characters, ungrouped, com
 use Rattle.pcl_items.specs.Modes.{follows}
 use Rattle.pcl_items.specs.Spellings.Canon.{amount_text, canon, IsItem}
 use Rattle.pcl_lexer.proofs.Escapes.Values.{after-append, ten_more}
-use Rattle.shown_bytes.specs.Decimals.{four_decimals, before, without_zeros, with_point, magnitude_text}
+use Rattle.shown_bytes.specs.Decimals.{four_decimals, digit_before, without_zeros, with_point, magnitude_text}
 
 -- ---- decimals
 
@@ -47,7 +47,7 @@ four_written n =
     let d = digit_of (n % 10) (omega arith) in
     omega arith
 
-before-digits : (d : ℕ) (ds : List ℕ) → digit_value d < 10 → AllDigits 10 ds → AllDigits 10 (before d ds)
+before-digits : (d : ℕ) (ds : List ℕ) → digit_value d < 10 → AllDigits 10 ds → AllDigits 10 (digit_before d ds)
 before-digits d [] h k = cond_both (d == 48) _ _ (AllDigits 10) (λ _. tt) (λ _. (h, tt))
 before-digits d (e ∷ ds) h k = (h, k)
 
@@ -55,7 +55,7 @@ zeros-digits : (ds : List ℕ) → AllDigits 10 ds → AllDigits 10 (without_zer
 zeros-digits [] h = tt
 zeros-digits (d ∷ ds) h = before-digits d (without_zeros ds) h.0 (zeros-digits ds h.1)
 
-before-length : (d : ℕ) (ds : List ℕ) → length (before d ds) ≤ length ds + 1
+before-length : (d : ℕ) (ds : List ℕ) → length (digit_before d ds) ≤ length ds + 1
 before-length d [] = cond_both (d == 48) _ _ (λ (l : List ℕ). length l ≤ 0 + 1) (λ _. omega arith) (λ _. omega arith)
 before-length d (e ∷ ds) = omega arith
 
@@ -67,7 +67,7 @@ zeros-length (d ∷ ds) = omega (arith, before-length d (without_zeros ds), zero
 abbrev Writes : ℕ → ℕ → List ℕ → Type 0
 Writes t n ds = t * 10 ^ length ds ≡ 10000 * digits_value_after 10 n ds
 
-before-writes : (t n d : ℕ) (ds : List ℕ) → Writes (t * 10) (n * 10 + digit_value d) ds → Writes t n (before d ds)
+before-writes : (t n d : ℕ) (ds : List ℕ) → Writes (t * 10) (n * 10 + digit_value d) ds → Writes t n (digit_before d ds)
 before-writes t n d [] h =
     cond_both (d == 48) _ _ (Writes t n)
     (λ e. let none : digit_value d ≡ 0 = ap digit_value (eqb-true d 48 e) in omega (arith, h))

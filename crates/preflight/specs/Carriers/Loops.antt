@@ -5,8 +5,8 @@ use Rattle.pcl_lexer.specs.Reading.{left}
 use Rattle.pcl_lexer.specs.Lexing.State.{LexerState}
 use Rattle.device_profile.specs.Printer.{Printer}
 use Rattle.preflight.specs.declared.checking.Checking.{Checking}
-use Rattle.preflight.specs.declared.standing.Standing.TheVariants.{Open}
-use Rattle.preflight.specs.Standing.{StandsBy, is_open}
+use Rattle.preflight.specs.declared.check_state.CheckState.TheVariants.{Open}
+use Rattle.preflight.specs.CheckState.{StandsBy, is_open}
 use Rattle.preflight.specs.Carriers.Lockstep.{machines_of, counts_of, AreRunning, AreIn}
 use Rattle.preflight.specs.Carriers.Checking.{HasExecuted, CameTo, ComesThrough, MayGoOn}
 
@@ -14,7 +14,7 @@ use Rattle.preflight.specs.Carriers.Checking.{HasExecuted, CameTo, ComesThrough,
 pub record MayExecute {A P : Type 0} (check : Checking A P) : Type 0 where
   pub running : AreRunning (machines_of check.machines)
   pub modes : AreIn (mode_of check.lexer.context) (machines_of check.machines)
-  pub stands : check.standing ≡ Open
+  pub stands : check.state ≡ Open
 
 -- the lexer has come no less far, in the same bytes
 pub record IsFurther (first last : LexerState) : Type 0 where
@@ -24,22 +24,22 @@ pub record IsFurther (first last : LexerState) : Type 0 where
 
 -- A loop executed what stands next, and answered whether the check is still open. Then no item is told.
 pub record ExecutesOn {A P : Type 0} (old new : Checking A P) (answer : Bool) : Type 0 where
-  pub came : StandsBy new.standing (λ failed.
-      ComesThrough failed new.culprit old.lexer new.lexer (machines_of old.machines) (machines_of new.machines)
+  pub came : StandsBy new.state (λ failed.
+      ComesThrough failed new.failing_item old.lexer new.lexer (machines_of old.machines) (machines_of new.machines)
       (counts_of old.machines) (counts_of new.machines))
-  pub tells : answer ≡ is_open new.standing
-  pub untold : IsTrue answer → new.culprit ≡ old.culprit
+  pub tells : answer ≡ is_open new.state
+  pub untold : IsTrue answer → new.failing_item ≡ old.failing_item
   pub further : IsFurther old.lexer new.lexer
 
 -- So did the loop over all that the bytes decide.
 pub record ExecutesDecided {A P : Type 0} (old new : Checking A P) (answer : Bool) : Type 0 where
-  pub came : StandsBy new.standing (λ failed.
+  pub came : StandsBy new.state (λ failed.
       (fleet : List Printer) (bytes : List ℕ) →
       HasExecuted fleet bytes old.lexer (machines_of old.machines) (counts_of old.machines)
-      → CameTo fleet bytes old.lexer.ended failed new.culprit new.lexer (machines_of new.machines)
+      → CameTo fleet bytes old.lexer.ended failed new.failing_item new.lexer (machines_of new.machines)
       (counts_of new.machines))
-  pub tells : answer ≡ is_open new.standing
-  pub untold : IsTrue answer → new.culprit ≡ None
+  pub tells : answer ≡ is_open new.state
+  pub untold : IsTrue answer → new.failing_item ≡ None
   pub ended : new.lexer.ended ≡ old.lexer.ended
   pub place : new.lexer.place + length new.lexer.rest ≡ old.lexer.place + length old.lexer.rest
-  pub goes_on : StandsBy new.standing (λ failed. MayGoOn failed old.lexer.ended new.lexer (machines_of new.machines))
+  pub goes_on : StandsBy new.state (λ failed. MayGoOn failed old.lexer.ended new.lexer (machines_of new.machines))

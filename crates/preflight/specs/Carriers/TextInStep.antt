@@ -3,7 +3,7 @@ use Rattle.std.specs.Prelude.{◌≡◌, ℕ, None, List, [], ◌∷◌}
 use Rattle.std.specs.List.{AllByRecursion}
 use Rattle.pcl_items.specs.declared.item.Mode.TheVariants.{Pcl}
 use Rattle.pcl_items.specs.Lines.{line_item}
-use Rattle.page_env.specs.declared.text_lines.Look.{Look}
+use Rattle.page_env.specs.declared.text_lines.TextAppearance.{TextAppearance}
 use Rattle.page_env.specs.declared.text_lines.TextPlace.{TextPlace}
 use Rattle.page_env.specs.TextLines.{AllGo, StandsAt}
 use Rattle.page_machine.specs.MachineState.{MachineState}
@@ -11,14 +11,14 @@ use Rattle.sinks.specs.declared.counts.Counts.{Counts}
 use Rattle.preflight.specs.Carriers.Lockstep.{Execute, GoesAlike}
 
 -- the bytes go on a machine from a place, in mode PCL, and no definition is open
-pub record GoOn (look : Look) (from : TextPlace) (codes : List ℕ) (machine : MachineState) : Type 0 where
+pub record GoOn (look : TextAppearance) (from : TextPlace) (codes : List ℕ) (machine : MachineState) : Type 0 where
   pub stands : StandsAt machine.page from
   pub go : AllGo machine.printer look from machine.page codes
   pub no_definition : machine.macros.definition ≡ None
   pub mode : machine.mode ≡ Pcl
 
 -- so they do on each of the machines, as characters of one look
-abbrev pub GoOnAll : Look → TextPlace → List ℕ → List MachineState → Type 0
+abbrev pub GoOnAll : TextAppearance → TextPlace → List ℕ → List MachineState → Type 0
 GoOnAll look from codes machines = AllByRecursion (GoOn look from codes) machines
 
 -- each of the bytes is an item that all machines execute with the same events, which are counted

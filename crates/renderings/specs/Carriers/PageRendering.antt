@@ -7,7 +7,7 @@ use Rattle.page_machine.specs.Event.{Event}
 use Rattle.page_machine.specs.Job.{JobRun, events_of, reading_run}
 use Rattle.page_machine.specs.MachineState.{MachineState}
 use Rattle.renderings.specs.declared.pages.PageText.{PageText}
-use Rattle.renderings.specs.Due.{Rendering, nothing_at_fault}
+use Rattle.renderings.specs.Expected.{Rendering, nothing_at_fault}
 use Rattle.streams.specs.Outlet.{OutletState, AddsFront}
 use Rattle.renderings.specs.PageTexts.{event_line, events_text, page_after, run_outcome}
 use Rattle.renderings.specs.Texts.{reading_outcome}

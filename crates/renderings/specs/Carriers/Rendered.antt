@@ -6,7 +6,7 @@ use Rattle.pcl_lexer.specs.Lexing.Meaning.{Undecided}
 use Rattle.pcl_lexer.specs.Modes.{mode_of}
 use Rattle.streams.specs.declared.error.Error.{Error}
 use Rattle.renderings.specs.declared.outcome.Outcome.{Outcome}
-use Rattle.renderings.specs.Due.{Rendering, IsDue}
+use Rattle.renderings.specs.Expected.{Rendering, IsExpected}
 use Rattle.streams.specs.Errors.{is_write}
 use Rattle.streams.specs.Outlet.{OutletState, Adds}
 use Rattle.streams.specs.Pieces.{MayBeBy}
@@ -43,7 +43,7 @@ pub record IsRendered (first : Rendering) (start : OutletState) (pieces : List (
     (outcome : Outcome) : Type 0 where
   pub text : List ℕ
   pub adds : Adds start written text
-  pub due : (job : List ℕ) → MayBeBy pieces job → IsDue first job text outcome
+  pub due : (job : List ℕ) → MayBeBy pieces job → IsExpected first job text outcome
   pub working : written.failed ≡ false
 
 -- A front was written, and nothing else, of what is due for these bytes as a whole job.

@@ -14,7 +14,7 @@ use Rattle.streams.specs.declared.error.Error.TheVariants.{Memory, Read, Write, 
 use Rattle.renderings.specs.declared.outcome.Outcome.{Outcome}
 use Rattle.streams.specs.Outlet.{OutletState, Adds, AddsFront}
 use Rattle.streams.specs.Writing.{Puts}
-use Rattle.renderings.specs.Due.{Rendering, IsDue, behind}
+use Rattle.renderings.specs.Expected.{Rendering, IsExpected, behind}
 
 -- ---- one item, or what comes behind the last
 
@@ -50,11 +50,12 @@ Ended rendering Is old new kept kept' (Err e) =
 -- the item was rendered, and the rest goes on from there; or the rendering ended at it, or failed
 abbrev pub RendersItem : Rendering → Rendering → Placed → OutletState → OutletState → List ℕ → List ℕ →
     Result (Option Outcome) Error → Type 0
-RendersItem before after x old new kept kept' (Ok None) =
-    (text : List ℕ) × Puts old new kept kept' text × RestGoesOn before after x text
-RendersItem before after x old new kept kept' (Ok (Some outcome)) =
-    Ended before (StartsWith x) old new kept kept' (Ok outcome)
-RendersItem before after x old new kept kept' (Err e) = Ended before (StartsWith x) old new kept kept' (Err e)
+RendersItem rest_before rest_behind x old new kept kept' (Ok None) =
+    (text : List ℕ) × Puts old new kept kept' text × RestGoesOn rest_before rest_behind x text
+RendersItem rest_before rest_behind x old new kept kept' (Ok (Some outcome)) =
+    Ended rest_before (StartsWith x) old new kept kept' (Ok outcome)
+RendersItem rest_before rest_behind x old new kept kept' (Err e) =
+    Ended rest_before (StartsWith x) old new kept kept' (Err e)
 
 -- a mode in which the renderer is admits the item
 abbrev pub MayCome : {R : Type 0} → (R → Mode → Type 0) → R → Entry → Type 0
@@ -86,7 +87,7 @@ pub record HasRendered (first : Rendering) (start : OutletState) (bytes : List �
 abbrev pub HasEnded : Rendering → OutletState → Bool → List ℕ → OutletState → List ℕ → Outcome → Type 0
 HasEnded first start ended bytes written kept outcome =
     (text : List ℕ) × Puts start written [] kept text
-    × ((job : List ℕ) → MayBe ended bytes job → IsDue first job text outcome)
+    × ((job : List ℕ) → MayBe ended bytes job → IsExpected first job text outcome)
 
 -- what was written is a front of what is due for the job
 abbrev pub IsFrontFor : Rendering → OutletState → OutletState → List ℕ → Type 0
@@ -106,9 +107,9 @@ RenderedTo first start ended bytes lexer rendering written kept (Err e) = IsFron
 -- rendering of all items that they decide came to this.
 abbrev pub RendersDecided : LexerState → LexerState → ℕ → Result (Option Outcome) Error → Rendering → Rendering →
     OutletState → OutletState → List ℕ → List ℕ → Type 0
-RendersDecided lexer lexer' total result before after written written' kept kept' =
+RendersDecided lexer lexer' total result rest_before rest_behind written written' kept kept' =
     (first : Rendering) (start : OutletState) (bytes : List ℕ) →
-    HasRendered first start bytes lexer before written kept → total ≡ length bytes →
+    HasRendered first start bytes lexer rest_before written kept → total ≡ length bytes →
     RenderedTo first start lexer.ended bytes lexer' after written' kept' result
 
 -- The lexer reads on in the same bytes. Where all that they decide was rendered, more may come, and the renderer is in

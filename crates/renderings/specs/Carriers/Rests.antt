@@ -5,7 +5,7 @@ use Rattle.pcl_lexer.specs.Reading.{Stopped}
 use Rattle.verdict.specs.Failing.{fault_at}
 use Rattle.renderings.specs.declared.outcome.Outcome.{Outcome}
 use Rattle.renderings.specs.declared.outcome.Outcome.TheVariants.{Done, Fail}
-use Rattle.renderings.specs.Due.{Rendering, IsOver}
+use Rattle.renderings.specs.Expected.{Rendering, IsOver}
 use Rattle.renderings.specs.Outcomes.{fails_with}
 
 -- the place that an outcome tells

@@ -2,7 +2,7 @@
 use Rattle.std.proofs.Common.{◌+◌, ◌≤◌, ℕ, List, length, Bool, arith}
 use Rattle.pcl_items.specs.declared.item.Mode.{Mode}
 use Rattle.pcl_lexer.specs.Lexing.State.{LexerState}
-use Rattle.renderings.specs.Due.{Rendering}
+use Rattle.renderings.specs.Expected.{Rendering}
 use Rattle.streams.specs.Outlet.{OutletState}
 use Rattle.renderings.specs.Carriers.Rendered.{CanRender, RendersOn}
 

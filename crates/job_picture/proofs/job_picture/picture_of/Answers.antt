@@ -1,5 +1,5 @@
 use Rattle.std.proofs.Common.{subst}
-use Rattle.renderings.specs.Due.{Renders}
+use Rattle.renderings.specs.Expected.{Renders}
 use Rattle.job_picture.proofs.Drawings.{drawing_start}
 use Rattle.job_picture.proofs.job_picture.picture_of.Goals as goal
 

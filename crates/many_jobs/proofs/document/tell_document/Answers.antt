@@ -25,11 +25,11 @@ returns-in_err-ending-clause-front g c =
     let printers = c.args.printers.now in
     let telling = told_by c.args.telling.now in
     let due = flat_map (due_of printers) (map (λ name. name.now) c.args.names.now) in
-    let before = g.O.Outlet.state c.begin_document.new.stdout in
+    let behind_start = g.O.Outlet.state c.begin_document.new.stdout in
     let old = work (g.O.Outlet.state c.args.stdout.now) (g.J.Jobs.ended c.args.jobs.now) in
     let new = work (g.O.Outlet.state c.check_jobs.new.stdout) (g.J.Jobs.ended c.check_jobs.new.jobs) in
     let stopped : TellsDocumentFront printers telling (g.J.Jobs.start c.args.jobs.now) due old new =
-    inr (inl (before, c.in_ok-begin_document.ensures.told, c.in_err-ending.ensures.front)) in
+    inr (inl (behind_start, c.in_ok-begin_document.ensures.told, c.in_err-ending.ensures.front)) in
     where_err c.from_residual-in_err-ending.result _ stopped
 
 pub returns-in_err-end_document-clause-front : goal.returns-in_err-end_document-clause-front
@@ -37,7 +37,7 @@ returns-in_err-end_document-clause-front g c =
     let printers = c.args.printers.now in
     let telling = told_by c.args.telling.now in
     let due = flat_map (due_of printers) (map (λ name. name.now) c.args.names.now) in
-    let before = g.O.Outlet.state c.begin_document.new.stdout in
+    let behind_start = g.O.Outlet.state c.begin_document.new.stdout in
     let behind = g.O.Outlet.state c.check_jobs.new.stdout in
     let old = work (g.O.Outlet.state c.args.stdout.now) (g.J.Jobs.ended c.args.jobs.now) in
     let new = work (g.O.Outlet.state c.end_document.new.stdout) (g.J.Jobs.ended c.check_jobs.new.jobs) in
@@ -45,12 +45,12 @@ returns-in_err-end_document-clause-front g c =
     cut_front c.in_err-end_document.field-0.0 (end_text telling.format) behind new.out c.in_err-end_document.ensures.cut in
     let stopped : TellsDocumentFront printers telling (g.J.Jobs.start c.args.jobs.now) due old new =
     inr
-    (inr (c.in_ok-ending.ending, before, behind, c.in_ok-begin_document.ensures.told, c.in_ok-ending.ensures.told, front)) in
+    (inr (c.in_ok-ending.ending, behind_start, behind, c.in_ok-begin_document.ensures.told, c.in_ok-ending.ensures.told, front)) in
     where_err c.from_residual-in_err-end_document.result _ stopped
 
 pub returns-clause-told : goal.returns-clause-told
 returns-clause-told g c = record {
-  before = g.O.Outlet.state c.begin_document.new.stdout;
+  behind_start = g.O.Outlet.state c.begin_document.new.stdout;
   behind = g.O.Outlet.state c.check_jobs.new.stdout;
   begun = c.in_ok-begin_document.ensures.told;
   lines = c.in_ok-ending.ensures.told;

@@ -1,5 +1,5 @@
 use Rattle.std.proofs.Common.{◌≡◌, [], subst, rules}
-use Rattle.renderings.specs.Due.{Renders}
+use Rattle.renderings.specs.Expected.{Renders}
 use Rattle.notes.proofs.Rests.{notes_start}
 use Rattle.notes.proofs.job_notes.notes_of.Goals as goal
 

@@ -21,9 +21,9 @@ returns-in-Err g c = (
       let black : List ℕ = c.up_to_black-black.result.now in
       let all : List ℕ = up_to_black c.args.bytes.now in
       let is : black ≡ all = c.up_to_black-black.ensures.value in
-      let before : first_finding line.before ≡ None =
+      let checks_before : first_finding line.checks_before ≡ None =
       ap (λ b. first_finding (row_checks raster s.raster b)) (sym is) ∙ c.in_ok-behind.ensures.1 in
-      let after : first_finding line.after ≡ Some c.in-Err.finding =
+      let after : first_finding line.checks_after ≡ Some c.in-Err.finding =
       ap
       (λ (r : Geometry × Origin × ℤ).
       first_finding (place_checks r.0 r.2 all (row_from raster.resolution (r.1.x +ℤ s.cursor.x) (r.1.y +ℤ r.2) all)))
@@ -31,6 +31,6 @@ returns-in-Err g c = (
       ∙ (λ i. first_finding
       (place_checks geometry y all (row_from raster.resolution (sym c.on_sheet-place.ensures.x i) (sym c.on_sheet-place.ensures.y i) all)))
       ∙ ap (λ b. first_finding (place_checks geometry y b (row_from raster.resolution place.x place.y b))) (sym is) ∙ c.in-Err.ensures in
-      late_line s.settings line (Goes line.state line.marks) c.in-Err.finding before ((c.in_ok-geometry.ensures panel).0) after,
+      late_line s.settings line (Goes line.state line.marks) c.in-Err.finding checks_before ((c.in_ok-geometry.ensures panel).0) after,
   record { env = refl; cursor = refl },
 )

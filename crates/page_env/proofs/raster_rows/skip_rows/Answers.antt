@@ -24,7 +24,7 @@ returns-in-None g c = (
       let geometry = c.in_ok-geometry.geometry in
       let whole : is_whole_between 0 32_767 n ≡ true = search rules in
       let height : passes_height (whole_of n) c.in-Some.raster ≡ false = search rules in
-      let before : first_finding line.before ≡ None =
+      let checks_before : first_finding line.checks_before ≡ None =
       (λ i. first_finding
       (check (not (whole i)) BadValue ∷ not_started (c.in-Some.is i)
       ∷ check (option_map_or (passes_height (whole_of n)) (c.in-Some.is i) false) RasterTooBig ∷ []))
@@ -32,10 +32,10 @@ returns-in-None g c = (
       let past : int_lt geometry.logical_height (place_behind resolution c.in_ok-geometry.y (whole_of n)) ≡ true =
       ap (λ rows. int_lt geometry.logical_height (place_behind resolution c.in_ok-geometry.y rows)) (sym c.whole_of-2.ensures)
       ∙ is_late _ (place_behind resolution c.in_ok-geometry.y c.whole_of-2.result) (sym c.in-None.is ∙ c.place_behind.ensures) in
-      let after : first_finding line.after ≡ Some OffPage =
+      let after : first_finding line.checks_after ≡ Some OffPage =
       ap (λ r. first_finding (past_foot r.0 resolution r.1 (whole_of n) ∷ [])) ((c.in_ok-geometry.ensures panel).1)
       ∙ ap (λ b. cond b (Some OffPage) None) past in
-      late_line s.settings line (Goes line.state []) OffPage before ((c.in_ok-geometry.ensures panel).0) after,
+      late_line s.settings line (Goes line.state []) OffPage checks_before ((c.in_ok-geometry.ensures panel).0) after,
   record { env = refl; cursor = refl },
 )
 
@@ -50,7 +50,7 @@ returns-in-Some-place_behind g c = (
       let geometry = c.in_ok-geometry.geometry in
       let whole : is_whole_between 0 32_767 n ≡ true = search rules in
       let height : passes_height (whole_of n) c.in-Some.raster ≡ false = search rules in
-      let before : first_finding line.before ≡ None =
+      let checks_before : first_finding line.checks_before ≡ None =
       (λ i. first_finding
       (check (not (whole i)) BadValue ∷ not_started (c.in-Some.is i)
       ∷ check (option_map_or (passes_height (whole_of n)) (c.in-Some.is i) false) RasterTooBig ∷ []))
@@ -60,7 +60,7 @@ returns-in-Some-place_behind g c = (
       let stays : int_lt geometry.logical_height (below (whole_of n)) ≡ false =
       ap (λ rows. int_lt geometry.logical_height (below rows)) (sym c.whole_of-2.ensures)
       ∙ is_taken _ (below c.whole_of-2.result) c.in-Some-place_behind.y taken in
-      let after : first_finding line.after ≡ None =
+      let after : first_finding line.checks_after ≡ None =
       ap (λ r. first_finding (past_foot r.0 resolution r.1 (whole_of n) ∷ [])) ((c.in_ok-geometry.ensures panel).1)
       ∙ ap (λ b. cond b (Some OffPage) None) stays in
       let place : place_behind resolution (vertical_place s) (whole_of n) ≡ c.in-Some-place_behind.y =
@@ -69,7 +69,7 @@ returns-in-Some-place_behind g c = (
       let left : raster_behind (whole_of n) c.in-Some.raster ≡ c.in-Some-raster_behind.behind = search rules in
       let raster : option_map (raster_behind (whole_of n)) s.raster ≡ Some c.in-Some-raster_behind.behind =
       ap (option_map (raster_behind (whole_of n))) c.in-Some.is ∙ ap Some left in
-      goes_line s.settings line (Goes line.state []) before ((c.in_ok-geometry.ensures panel).0) after
+      goes_line s.settings line (Goes line.state []) checks_before ((c.in_ok-geometry.ensures panel).0) after
       ∙ (λ i. Goes (record s { cursor = record s.cursor { y = Some (place i) }; raster = raster i }) []),
   tt,
 )

@@ -1,7 +1,7 @@
 use Rattle.std.proofs.Common.{◌≡◌, ◌∙◌, ap, refl, subst, sym, Result, Ok, Err, List, ℕ}
 use Rattle.streams.specs.declared.error.Error.{Error}
 use Rattle.renderings.specs.declared.outcome.Outcome.{Outcome}
-use Rattle.renderings.specs.Due.{Rendering, Renders}
+use Rattle.renderings.specs.Expected.{Rendering, Renders}
 use Rattle.requests.specs.Status.{is_refusal, is_stop_of_read, is_stop_of_write}
 use Rattle.job_picture.specs.JobPicture.{picture_rendering}
 use Rattle.picture_command.specs.Picture.{without_line_end}

@@ -1,6 +1,6 @@
 use Rattle.std.proofs.Common.{◌≡◌, ◌∙◌, ap, refl, subst, sym, Ok, Err}
 use Rattle.streams.specs.declared.error.Error.TheVariants.{Turns}
-use Rattle.renderings.specs.Due.{Renders}
+use Rattle.renderings.specs.Expected.{Renders}
 use Rattle.streams.specs.Errors.{is_read}
 use Rattle.picture_command.specs.PageSearch.{search_rendering}
 use Rattle.picture_command.specs.Picture.{IsErrorOfSearch}

@@ -4,7 +4,7 @@ use Rattle.named_inputs.specs.Fleet.{IsNamed}
 use Rattle.requests.specs.Status.{is_err_at_read}
 use Rattle.std.proofs.Math.Bool.{or-false}
 use Rattle.streams.specs.Outlet.{Stays}
-use Rattle.picture_command.specs.Picture.{Around, Draws, IsNamedBy}
+use Rattle.picture_command.specs.Picture.{BeforeAndAfter, Draws, IsNamedBy}
 use Rattle.picture_command.proofs.Commands.{Stays-none, choice_ends, choice_told, early_end, names_of, no_choice, no_panel, no_printer}
 use Rattle.picture_command.proofs.Commands.{no_text_refused, none_refused, picture_left, refused_nothing}
 use Rattle.picture_command.proofs.command.picture.Goals as goal
@@ -81,7 +81,7 @@ returns-in-Err-chosen_panel-clause-choice g c =
 
 pub returns-clause-left : goal.returns-clause-left
 returns-clause-left g c =
-    let around : Around = record {
+    let around : BeforeAndAfter = record {
       first = g.S.Source.state c.args.first.now;
       first' = g.S.Source.state c.draw.new.first;
       second = g.S.Source.state c.args.second.now;

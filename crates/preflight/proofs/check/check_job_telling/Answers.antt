@@ -1,10 +1,10 @@
 use Rattle.std.proofs.Common.{◌≡◌, Result, Ok, Err, refl, ap, inl, inr, subst, sym}
 use Rattle.std.proofs.lemmas.Result.{err_from_is_err_and}
 use Rattle.streams.specs.Pieces.{ByReads}
-use Rattle.preflight.specs.declared.culprit.Judgement.{Judgement}
+use Rattle.preflight.specs.declared.failing_item.Judgement.{Judgement}
 use Rattle.streams.specs.declared.error.Error.{Error}
 use Rattle.streams.specs.declared.error.Error.TheVariants.{Memory, Read, Turns}
-use Rattle.preflight.specs.Culprit.{IsTold}
+use Rattle.preflight.specs.FailingItem.{IsTold}
 use Rattle.preflight.specs.Where.{IsOnPage}
 use Rattle.preflight.specs.Verdict.{IsExact, VerdictHolds}
 use Rattle.preflight.proofs.Judging.{asked, exact, headline, known_ok, needed, never_items, never_write, paged, placed, still_open, told}
@@ -49,15 +49,15 @@ returns-clause-known_headline g c =
 pub returns-clause-told : goal.returns-clause-told
 returns-clause-told g c =
     subst
-    (λ culprit. ByReads (g.S.Source.state c.args.reader.now) (g.S.Source.state c.read_job.new.reader)
-    (λ job. IsTold job c.in_ok-verdict.verdict culprit))
-    (sym c.culprit.ensures.value)
+    (λ failing_item. ByReads (g.S.Source.state c.args.reader.now) (g.S.Source.state c.read_job.new.reader)
+    (λ job. IsTold job c.in_ok-verdict.verdict failing_item))
+    (sym c.failing_item.ensures.value)
     (told c.args.fleet.now (c.in_ok-session.session, tt) (c.read_job.new.consumer, tt) c.in_ok-session.ensures.none _ _
     (Ok c.in_ok-verdict.verdict) c.in_ok-verdict.ensures.answered)
 
 pub returns-clause-known_told : goal.returns-clause-known_told
 returns-clause-known_told g c =
-    known_ok _ _ (λ job verdict. IsTold job verdict c.culprit.result) (Ok c.in_ok-verdict.verdict) (returns-clause-told g c)
+    known_ok _ _ (λ job verdict. IsTold job verdict c.failing_item.result) (Ok c.in_ok-verdict.verdict) (returns-clause-told g c)
 
 pub returns-clause-paged : goal.returns-clause-paged
 returns-clause-paged g c =

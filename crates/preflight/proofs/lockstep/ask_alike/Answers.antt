@@ -3,8 +3,8 @@ use Rattle.std.proofs.lemmas.List.{take_all}
 use Rattle.pcl_items.specs.Items.{view}
 use Rattle.page_env.specs.Likeness.{asks_alike}
 use Rattle.page_machine.specs.MachineState.{MachineState}
-use Rattle.preflight.specs.Carriers.Formation.{AskAlike}
-use Rattle.preflight.proofs.Formations.{one_more}
+use Rattle.preflight.specs.Carriers.FleetMode.{AskAlike}
+use Rattle.preflight.proofs.FleetModes.{one_more}
 use Rattle.preflight.proofs.lockstep.ask_alike.Goals as goal
 
 pub loop-machine-init : goal.loop-machine-init

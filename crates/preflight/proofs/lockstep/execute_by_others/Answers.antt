@@ -12,8 +12,8 @@ use Rattle.preflight.specs.Carriers.Lockstep.{action_of, ModeAdmits, PagesAt, St
 use Rattle.sinks.proofs.Recording.{differs_exactly, TakesAll-paged}
 use Rattle.preflight.proofs.Executing.{SoFar, none_so_far, next_is, all_there, so_far_more, stops_so_far, all_so_far, other_so_far}
 use Rattle.preflight.proofs.Executing.{was_running, does_by, fails_by, differ_of, finds_there, stops_there}
-use Rattle.preflight.specs.Standing.{is_open}
-use Rattle.preflight.proofs.Standings.{failed_by, open_by, open_is}
+use Rattle.preflight.specs.CheckState.{is_open}
+use Rattle.preflight.proofs.CheckStates.{failed_by, open_by, open_is}
 use Rattle.preflight.proofs.lockstep.execute_by_others.Goals.{then-differs, else-differs}
 use Rattle.preflight.proofs.lockstep.execute_by_others.Goals as goal
 

@@ -1,7 +1,7 @@
 use Rattle.std.proofs.Common.{◌≡◌, ◌<◌, None, length, subst, sym, arith}
 use Rattle.page_machine.specs.MachineState.{MachineState}
-use Rattle.preflight.specs.Carriers.Formation.{StandsAs}
-use Rattle.preflight.proofs.Formations.{all_at}
+use Rattle.preflight.specs.Carriers.FleetMode.{StandsAs}
+use Rattle.preflight.proofs.FleetModes.{all_at}
 use Rattle.preflight.proofs.TextInStep.{unchanged_at, changed_more}
 use Rattle.preflight.proofs.lockstep.stand_as.Goals as goal
 

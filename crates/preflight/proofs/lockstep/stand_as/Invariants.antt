@@ -1,4 +1,4 @@
-use Rattle.preflight.specs.Carriers.Formation.{StandsAs}
+use Rattle.preflight.specs.Carriers.FleetMode.{StandsAs}
 use Rattle.preflight.proofs.TextInStep.{ChangedUpTo}
 use Rattle.preflight.proofs.lockstep.stand_as.Given as goal
 

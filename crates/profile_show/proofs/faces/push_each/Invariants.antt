@@ -5,4 +5,4 @@ use Rattle.profile_show.proofs.faces.push_each.Given as goal
 
 abbrev pub invariant-loop-face : goal.invariant-loop-face
 invariant-loop-face g l =
-    l.text.items ++ lines_behind (option_copied l.before) (drop l.face-index l.faces) ≡ l.initial.text.items ++ lines_behind None l.faces
+    l.text.items ++ lines_behind (option_copied l.last_face) (drop l.face-index l.faces) ≡ l.initial.text.items ++ lines_behind None l.faces

@@ -1,5 +1,5 @@
 use Rattle.std.proofs.Common.{subst}
-use Rattle.renderings.specs.Due.{Renders}
+use Rattle.renderings.specs.Expected.{Renders}
 use Rattle.renderings.proofs.PageRenderings.{pages_start}
 use Rattle.renderings.proofs.pages.pages_of.Goals as goal
 

@@ -1,7 +1,7 @@
 use Rattle.std.proofs.Common.{◌≡◌, ◌+◌, ℕ, List, length, IsFalse}
 use Rattle.pcl_lexer.specs.Modes.{mode_of}
 use Rattle.pcl_lexer.specs.Reading.{left}
-use Rattle.renderings.specs.Due.{Rendering}
+use Rattle.renderings.specs.Expected.{Rendering}
 use Rattle.streams.specs.Outlet.{OutletState}
 use Rattle.renderings.specs.Carriers.Rendering.{HasRendered}
 use Rattle.renderings.proofs.render.render_items.Given as goal

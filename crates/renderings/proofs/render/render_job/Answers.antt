@@ -4,7 +4,7 @@ use Rattle.pcl_lexer.specs.Lexing.State.{LexerState}
 use Rattle.pcl_lexer.specs.Modes.{mode_of}
 use Rattle.streams.specs.declared.error.Error.{Error}
 use Rattle.streams.specs.declared.error.Error.TheVariants.{Read, Turns}
-use Rattle.renderings.specs.Due.{TextStaysOpen, TextWasOpen, WritesDecided, WritesFront}
+use Rattle.renderings.specs.Expected.{TextStaysOpen, TextWasOpen, WritesDecided, WritesFront}
 use Rattle.streams.specs.Errors.{is_write}
 use Rattle.renderings.specs.Carriers.Rendered.{IsCutOff, RendersOn}
 use Rattle.streams.proofs.Driving.{answer_gives, by_whose, never_items, never_none, of_read, own_read, stop_gives, stops_both}
@@ -74,27 +74,27 @@ returns g c =
           answer_gives result c.read_job.ensures.answered
           (λ outcome is. due_by rendering outlet outlet' source source' _ outcome is.given_is is.known is.answered
           (record {
-            before = is.before;
+            pieces_before = is.pieces_before;
             last = is.last;
             given = is.given_is;
             short = is.short;
             left_open =
                 leaves_open rendering outlet (g.W.Outlet.state is.between.1) (g.R.Renderer.is_in is.between.0.renderer.now) is.bytes
                 (g.R.Renderer.rendering is.between.0.renderer.now) is.between.0.kept.items 0 is.between.0.total is.between.0.lexer
-                is.left_open (g.met.R.Renderer.rest_matters is.between.0.renderer.now) is.before is.spelled;
+                is.left_open (g.met.R.Renderer.rest_matters is.between.0.renderer.now) is.pieces_before is.spelled;
           }));
       front = stop_gives result stopped
           (λ error is.
           let open_before = is.was_open in
           let was_open : TextWasOpen rendering source source' = (
-            open_before.before,
+            open_before.pieces_before,
             open_before.last,
             is.given_is ∙ ap (λ (pieces : List (List ℕ)). source.given ++ pieces) open_before.split,
             open_before.at_most_one,
             leaves_open rendering outlet (g.W.Outlet.state open_before.between.1) (g.R.Renderer.is_in open_before.between.0.renderer.now)
                 open_before.bytes (g.R.Renderer.rendering open_before.between.0.renderer.now) open_before.between.0.kept.items 0
                 open_before.between.0.total open_before.between.0.lexer open_before.left_open
-                (g.met.R.Renderer.rest_matters open_before.between.0.renderer.now) open_before.before open_before.spelled,
+                (g.met.R.Renderer.rest_matters open_before.between.0.renderer.now) open_before.pieces_before open_before.spelled,
           ) in
           by_whose (Open is.bytes) (CutOff is.bytes) Front error is.came
           (λ h. front_told rendering outlet outlet' source source' is.pieces is.bytes is.given_is is.joined is.consumed _ _ _ _ _ _ h

@@ -1,7 +1,7 @@
 use Rattle.std.proofs.Common.{◌||◌, ◌∙◌, ap, sym, subst}
 use Rattle.std.proofs.Math.Bool.{or-false}
 use Rattle.device_profile.specs.Printer.{first_panel}
-use Rattle.renderings.specs.Due.{Renders, pages_rendering}
+use Rattle.renderings.specs.Expected.{Renders, pages_rendering}
 use Rattle.named_inputs.specs.Fleet.{IsEndOfProfile, IsNamed}
 use Rattle.requests.specs.Status.{is_err_at_read}
 use Rattle.named_inputs.proofs.FleetFacts.{no_write_before}

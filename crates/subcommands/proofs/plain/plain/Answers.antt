@@ -1,7 +1,7 @@
 use Rattle.std.proofs.Common.{◌||◌, ◌∙◌, ap, refl, sym, subst}
 use Rattle.std.proofs.Math.Bool.{or-false}
 use Rattle.renderings.specs.Carriers.Rests.{faults_matter}
-use Rattle.renderings.specs.Due.{plain_rendering}
+use Rattle.renderings.specs.Expected.{plain_rendering}
 use Rattle.streams.specs.Outlet.{OutletState}
 use Rattle.streams.specs.Source.{SourceState}
 use Rattle.requests.specs.Status.{is_err_at_read, is_err_at_write, IsEndOfOpening}

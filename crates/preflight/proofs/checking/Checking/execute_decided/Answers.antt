@@ -1,14 +1,14 @@
 use Rattle.std.proofs.Common.{◌≡◌, Bool, true, false, sym, ap, subst, ◌∙◌, refl, Ok, arith}
 use Rattle.pcl_lexer.specs.Lexing.Meaning.{given}
 use Rattle.pcl_lexer.specs.Reading.{left}
-use Rattle.preflight.specs.Standing.{is_open}
+use Rattle.preflight.specs.CheckState.{is_open}
 use Rattle.preflight.specs.Carriers.Checking.{FailsBy}
 use Rattle.preflight.specs.Carriers.Lockstep.{counts_of, machines_of}
 use Rattle.preflight.proofs.Answered.{all_admit_next, bytes_fail, bytes_whole, ends, fault_paged, item_takes, nothing_read, same_mode}
 use Rattle.preflight.proofs.Answered.{wants_more}
 use Rattle.preflight.proofs.Loops.{answered, decided_closed, goes_behind, goes_here, goes_none, goes_open, item_behind, may_again}
 use Rattle.preflight.proofs.Loops.{on_behind, on_open}
-use Rattle.preflight.proofs.Standings.{failed_by, open_by}
+use Rattle.preflight.proofs.CheckStates.{failed_by, open_by}
 use Rattle.preflight.proofs.checking.Checking.execute_decided.Goals as goal
 
 both : {b : Bool} → b ≡ true → b ≡ false → ⊥
@@ -69,7 +69,12 @@ loop-is_open-preserved-then-step g c =
     let step = c.step.ensures in
     let went =
     item_behind _
-    (record { lexer = c.next_pair.new.self; machines = c.step.new.self; standing = c.step.new.standing; culprit = c.step.new.culprit }) _ _
+    (record {
+      lexer = c.next_pair.new.self;
+      machines = c.step.new.self;
+      state = c.step.new.state;
+      failing_item = c.step.new.failing_item;
+    }) _ _
     c.one_reading.ensures c.watched_runs_are_alike.ensures _ _ _ refl goes c.in-Some.ensures.pair step.open
     step.told step.untold step.came in
     on_behind _ _ _ _ (goes_open _ _ _ c.if-step.true went) c.execute_plot.ensures
@@ -252,7 +257,7 @@ returns-in-Err g c =
     record {
       came = failed_by _ _ _ c.fail.ensures.standing (λ fleet bytes executed job may_be.
           subst
-          (λ failure. FailsBy fleet job failure c.execute_pcl.new.self.culprit (counts_of c.execute_pcl.new.self.machines)
+          (λ failure. FailsBy fleet job failure c.execute_pcl.new.self.failing_item (counts_of c.execute_pcl.new.self.machines)
           (machines_of c.execute_pcl.new.self.machines))
           (sym c.of_fault.ensures) (
             bytes_fail _ _ _ next c.in-Err.fault c.in-Err.is c.watched_runs_are_alike.ensures fleet bytes _ _ _ behind.further.ended

@@ -1,13 +1,13 @@
 use Rattle.pcl_lexer.specs.Reading.{left}
 use Rattle.preflight.specs.Carriers.Lockstep.{machines_of}
 use Rattle.preflight.specs.Carriers.PairsInStep.{FirstDraws}
-use Rattle.preflight.proofs.Loops.{GoesOn}
+use Rattle.preflight.proofs.Loops.{CheckGoesOn}
 use Rattle.preflight.proofs.checking.Checking.execute_pairs.Given as goal
 
 abbrev pub invariant-loop-read : goal.invariant-loop-read
 invariant-loop-read g l = record {
   draws : FirstDraws l.bounds (machines_of l.self.machines);
-  goes : GoesOn l.initial.self l.self;
+  goes : CheckGoesOn l.initial.self l.self;
 }
 
 abbrev pub decreases-loop-read : goal.decreases-loop-read

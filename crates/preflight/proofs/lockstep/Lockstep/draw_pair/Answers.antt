@@ -3,7 +3,7 @@ use Rattle.pcl_items.specs.Items.{Entry, Move, simple_view}
 use Rattle.pcl_items.specs.declared.item.SimpleItem.TheVariants as simple
 use Rattle.page_env.specs.Mark.{Line}
 use Rattle.page_machine.specs.Event.{Marked}
-use Rattle.preflight.specs.Carriers.Formation.{others_in}
+use Rattle.preflight.specs.Carriers.FleetMode.{others_in}
 use Rattle.preflight.specs.Carriers.Lockstep.{AreRunning, Execute, Fleet, GoesAlike}
 use Rattle.preflight.specs.Carriers.PairsInStep.{FirstDraws}
 use Rattle.preflight.proofs.PairsInStep.{all_draw}
@@ -24,14 +24,14 @@ returns g c =
       drawn = λ yes.
           subst
           (λ (i : Entry). GoesAlike (Execute i) c.args.self.now.machines
-          (first ∷ others_in before.formation first others) c.args.self.now.counts c.add_marks.new.self)
+          (first ∷ others_in before.fleet_mode first others) c.args.self.now.counts c.add_marks.new.self)
           (sym read)
           (subst
           (λ (f : Fleet). GoesAlike (Execute (Move motion (Some to))) f.machines
-          (first ∷ others_in before.formation first others) f.counts c.add_marks.new.self)
+          (first ∷ others_in before.fleet_mode first others) f.counts c.add_marks.new.self)
           c.self.view_is (
             Marked (Line pair.line) ∷ [],
-            all_draw c.items_run_on_like_printers.ensures c.args.bounds.now motion to before.formation before.first first others running
+            all_draw c.items_run_on_like_printers.ensures c.args.bounds.now motion to before.fleet_mode before.first first others running
                 (c.self.invariant running) c.in-Alone.is draws.1 pair,
             c.add_marks.ensures (Line pair.line ∷ []) refl,
           ));

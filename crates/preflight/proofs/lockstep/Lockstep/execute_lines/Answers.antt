@@ -1,7 +1,7 @@
 use Rattle.std.proofs.Common.{◌≡◌, ◌∷◌, ◌++◌, ℕ, List, Option, IfSome, map, take, drop, length, ap, sym, subst, ◌∙◌, arith}
 use Rattle.pcl_items.specs.declared.item.Mode.TheVariants.{Pcl}
 use Rattle.page_env.proofs.TextRooms.{measured_lines_go}
-use Rattle.page_env.specs.declared.text_lines.Look.{Look}
+use Rattle.page_env.specs.declared.text_lines.TextAppearance.{TextAppearance}
 use Rattle.page_env.specs.declared.text_lines.TextLines.{TextLines}
 use Rattle.page_env.specs.TextLines.{GoAs}
 use Rattle.page_env.specs.TextMeasure.{AreLinesFrom}
@@ -11,20 +11,20 @@ use Rattle.page_machine.specs.TextLines.{PrintsLines}
 use Rattle.sinks.specs.Counts.{counts_after}
 use Rattle.sinks.specs.declared.counts.Counts.{Counts}
 use Rattle.preflight.specs.Carriers.Each.{Each}
-use Rattle.preflight.specs.declared.lockstep.Formation.{Formation}
-use Rattle.preflight.specs.declared.lockstep.Formation.TheVariants.{Apart}
-use Rattle.preflight.specs.Carriers.Formation.{IsFormed, others_in}
+use Rattle.preflight.specs.declared.lockstep.FleetMode.{FleetMode}
+use Rattle.preflight.specs.declared.lockstep.FleetMode.TheVariants.{Apart}
+use Rattle.preflight.specs.Carriers.FleetMode.{IsFormed, others_in}
 use Rattle.preflight.specs.Carriers.Lockstep.{AreIn, AreRunning, Fleet}
 use Rattle.preflight.specs.Carriers.TextInStep.{GoOnAll, PrintInStep}
 use Rattle.preflight.proofs.Executing.{written_back}
 use Rattle.preflight.proofs.TextInStep.{all_in_pcl, all_print, lines_of, print_in_step, shape_count, shapes_of, stay_formed}
 use Rattle.preflight.proofs.lockstep.Lockstep.execute_lines.Given.{Over}
-use Rattle.preflight.proofs.lockstep.Lockstep.execute_lines.Goals.{After-add_marks, in-Apart, in_default-formation, in-Apart-formation}
-use Rattle.preflight.proofs.lockstep.Lockstep.execute_lines.Goals.{in_default-formation-2}
+use Rattle.preflight.proofs.lockstep.Lockstep.execute_lines.Goals.{After-add_marks, in-Apart, in_default-fleet_mode, in-Apart-fleet_mode}
+use Rattle.preflight.proofs.lockstep.Lockstep.execute_lines.Goals.{in_default-fleet_mode-2}
 use Rattle.preflight.proofs.lockstep.Lockstep.execute_lines.Goals as goal
 
 module _ (g : Over) (c : After-add_marks g) where
-  abbrev look : Look
+  abbrev look : TextAppearance
   look = c.in-Some.measure.look
 
   abbrev text : List ℕ
@@ -41,7 +41,7 @@ module _ (g : Over) (c : After-add_marks g) where
     | in-Apart w ↦
         subst (λ (o : Option TextLines). IfSome o (λ lines. AreLinesFrom c.in-Some.measure c.in-Some.from c.args.bytes.now lines))
         (sym w.found-is ∙ c.in-Some-found.is) w.lines_on_all-found.ensures.lines
-    | in_default-formation w ↦
+    | in_default-fleet_mode w ↦
         subst (λ (o : Option TextLines). IfSome o (λ lines. AreLinesFrom c.in-Some.measure c.in-Some.from c.args.bytes.now lines))
         (sym w.found-is ∙ c.in-Some-found.is) w.lines_ahead.ensures
   ]
@@ -55,7 +55,7 @@ module _ (g : Over) (c : After-add_marks g) where
   prints = c.pass_lines.ensures look c.in-Some.from text c.in-Some.ensures.no_definition goes
 
   -- where each goes by itself they go on the others, too
-  go_on : c.self.inside.formation ≡ Apart → GoOnAll look c.in-Some.from text before
+  go_on : c.self.inside.fleet_mode ≡ Apart → GoOnAll look c.in-Some.from text before
   go_on apart = elim c.match-self.branch [
     | in-Apart w ↦
         subst (λ ms. GoOnAll look c.in-Some.from text ms) w.deref.ensures.value
@@ -63,30 +63,30 @@ module _ (g : Over) (c : After-add_marks g) where
         (λ (o : Option TextLines).
         IfSome o (λ lines. GoOnAll look c.in-Some.from (take lines.count c.args.bytes.now) w.deref.result.now))
         (sym w.found-is ∙ c.in-Some-found.is) w.lines_on_all-found.ensures.go)
-    | in_default-formation w ↦ absurd (w.in_default-formation.not-Apart apart)
+    | in_default-fleet_mode w ↦ absurd (w.in_default-fleet_mode.not-Apart apart)
   ]
 
   first_is : c.match-self-2.self-inside.first ≡ c.pass_lines.new.self
   first_is = elim c.match-self-2.branch [
-    | in-Apart-formation w ↦ ap (λ s. s.first) w.self-inside-is
-    | in_default-formation-2 w ↦ ap (λ s. s.first) w.self-inside-is
+    | in-Apart-fleet_mode w ↦ ap (λ s. s.first) w.self-inside-is
+    | in_default-fleet_mode-2 w ↦ ap (λ s. s.first) w.self-inside-is
   ]
 
-  formation_is : c.match-self-2.self-inside.formation ≡ c.self.inside.formation
-  formation_is = elim c.match-self-2.branch [
-    | in-Apart-formation w ↦ ap (λ s. s.formation) w.self-inside-is
-    | in_default-formation-2 w ↦ ap (λ s. s.formation) w.self-inside-is
+  fleet_mode_is : c.match-self-2.self-inside.fleet_mode ≡ c.self.inside.fleet_mode
+  fleet_mode_is = elim c.match-self-2.branch [
+    | in-Apart-fleet_mode w ↦ ap (λ s. s.fleet_mode) w.self-inside-is
+    | in_default-fleet_mode-2 w ↦ ap (λ s. s.fleet_mode) w.self-inside-is
   ]
 
   counts_are : c.match-self-2.self-inside.counts ≡ c.self.inside.counts
   counts_are = elim c.match-self-2.branch [
-    | in-Apart-formation w ↦ ap (λ s. s.counts) w.self-inside-is
-    | in_default-formation-2 w ↦ ap (λ s. s.counts) w.self-inside-is
+    | in-Apart-fleet_mode w ↦ ap (λ s. s.counts) w.self-inside-is
+    | in_default-fleet_mode-2 w ↦ ap (λ s. s.counts) w.self-inside-is
   ]
 
-  others_print : c.self.inside.formation ≡ Apart → Each (PrintsLines look c.in-Some.from text) before behind
+  others_print : c.self.inside.fleet_mode ≡ Apart → Each (PrintsLines look c.in-Some.from text) before behind
   others_print apart = elim c.match-self-2.branch [
-    | in-Apart-formation w ↦
+    | in-Apart-fleet_mode w ↦
         let n = c.self.inside.others.len in
         let others = w.pass_lines_on_each.new.machines in
         let whole : take n (others ++ drop (length others) before) ≡ others =
@@ -98,22 +98,22 @@ module _ (g : Over) (c : After-add_marks g) where
         (w.pass_lines_on_each.ensures look c.in-Some.from text go are_lines.end are_lines.glyphs) in
         subst (λ ms. Each (PrintsLines look c.in-Some.from text) before ms) (sym (ap (λ s. s.others.items) w.self-inside-is))
         (subst (λ ms. Each (PrintsLines look c.in-Some.from text) before ms) (sym whole) each)
-    | in_default-formation-2 w ↦ absurd (w.in_default-formation-2.not-Apart apart)
+    | in_default-fleet_mode-2 w ↦ absurd (w.in_default-fleet_mode-2.not-Apart apart)
   ]
 
-  others_are : (c.self.inside.formation ≡ Apart → ⊥) → behind ≡ before
+  others_are : (c.self.inside.fleet_mode ≡ Apart → ⊥) → behind ≡ before
   others_are together = elim c.match-self-2.branch [
-    | in-Apart-formation w ↦ absurd (together w.in-Apart-formation.is)
-    | in_default-formation-2 w ↦ ap (λ s. s.others.items) w.self-inside-is
+    | in-Apart-fleet_mode w ↦ absurd (together w.in-Apart-fleet_mode.is)
+    | in_default-fleet_mode-2 w ↦ ap (λ s. s.others.items) w.self-inside-is
   ]
 
-  running : AreRunning (c.self.inside.first ∷ others_in c.self.inside.formation c.self.inside.first before)
+  running : AreRunning (c.self.inside.first ∷ others_in c.self.inside.fleet_mode c.self.inside.first before)
   running = subst (λ (f : Fleet). AreRunning f.machines) (sym c.self.view_is) c.requires.running
 
-  in_pcl : AreIn Pcl (c.self.inside.first ∷ others_in c.self.inside.formation c.self.inside.first before)
-  in_pcl = all_in_pcl look c.in-Some.from text c.self.inside.formation c.self.inside.first before c.in-Some.ensures.mode go_on
+  in_pcl : AreIn Pcl (c.self.inside.first ∷ others_in c.self.inside.fleet_mode c.self.inside.first before)
+  in_pcl = all_in_pcl look c.in-Some.from text c.self.inside.fleet_mode c.self.inside.first before c.in-Some.ensures.mode go_on
 
-  formed : IsFormed c.self.inside.formation c.self.inside.first before
+  formed : IsFormed c.self.inside.fleet_mode c.self.inside.first before
   formed = c.self.invariant running.0
 
 pub returns-clause-short : goal.returns-clause-short
@@ -124,39 +124,39 @@ returns-clause-lines g c = lines_of c.self.inside.first.printer (text g c) (look
 
 pub invariant_of-self : goal.invariant_of-self
 invariant_of-self g c = λ _.
-    subst (λ m. IsFormed c.match-self-2.self-inside.formation m (behind g c)) (sym (first_is g c))
-    (subst (λ (f : Formation). IsFormed f c.pass_lines.new.self (behind g c)) (sym (formation_is g c))
+    subst (λ m. IsFormed c.match-self-2.self-inside.fleet_mode m (behind g c)) (sym (first_is g c))
+    (subst (λ (f : FleetMode). IsFormed f c.pass_lines.new.self (behind g c)) (sym (fleet_mode_is g c))
     (stay_formed c.items_go_on_like_printers.ensures.items (look g c) c.in-Some.from (text g c) c.self.inside.first c.pass_lines.new.self
-    (goes g c).go (prints g c) c.self.inside.formation (before g c) (behind g c) (formed g c) (others_are g c)))
+    (goes g c).go (prints g c) c.self.inside.fleet_mode (before g c) (behind g c) (formed g c) (others_are g c)))
 
 pub returns-clause-step : goal.returns-clause-step
 returns-clause-step g c =
     let first = c.self.inside.first in
-    let formation = c.self.inside.formation in
+    let fleet_mode = c.self.inside.fleet_mode in
     let shapes = shapes_of (look g c) c.in-Some.from (text g c) in
     let counted : c.add_marks.new.self ≡ counts_after (map Marked shapes) c.self.inside.counts =
     c.add_marks.ensures shapes (shape_count (text g c) (look g c) c.in-Some.from ∙ sym (goes g c).glyphs)
     ∙ ap (counts_after (map Marked shapes)) (counts_are g c) in
     let each =
     all_print c.items_go_on_like_printers.ensures.items (look g c) c.in-Some.from (text g c) first c.pass_lines.new.self (goes g c).go
-    (prints g c) formation (before g c) (behind g c) (formed g c) (others_print g c) (others_are g c) in
+    (prints g c) fleet_mode (before g c) (behind g c) (formed g c) (others_print g c) (others_are g c) in
     subst
     (λ (f : Fleet). PrintInStep (text g c) f.machines
-    (c.match-self-2.self-inside.first ∷ others_in c.match-self-2.self-inside.formation c.match-self-2.self-inside.first (behind g c))
+    (c.match-self-2.self-inside.first ∷ others_in c.match-self-2.self-inside.fleet_mode c.match-self-2.self-inside.first (behind g c))
     f.counts c.add_marks.new.self)
     c.self.view_is
     (subst
-    (λ m. PrintInStep (text g c) (first ∷ others_in formation first (before g c))
-    (m ∷ others_in c.match-self-2.self-inside.formation m (behind g c)) c.self.inside.counts c.add_marks.new.self)
+    (λ m. PrintInStep (text g c) (first ∷ others_in fleet_mode first (before g c))
+    (m ∷ others_in c.match-self-2.self-inside.fleet_mode m (behind g c)) c.self.inside.counts c.add_marks.new.self)
     (sym (first_is g c))
     (subst
-    (λ (f : Formation). PrintInStep (text g c) (first ∷ others_in formation first (before g c))
+    (λ (f : FleetMode). PrintInStep (text g c) (first ∷ others_in fleet_mode first (before g c))
     (c.pass_lines.new.self ∷ others_in f c.pass_lines.new.self (behind g c)) c.self.inside.counts c.add_marks.new.self)
-    (sym (formation_is g c))
+    (sym (fleet_mode_is g c))
     (subst
-    (λ (counts : Counts). PrintInStep (text g c) (first ∷ others_in formation first (before g c))
-    (c.pass_lines.new.self ∷ others_in formation c.pass_lines.new.self (behind g c)) c.self.inside.counts counts)
+    (λ (counts : Counts). PrintInStep (text g c) (first ∷ others_in fleet_mode first (before g c))
+    (c.pass_lines.new.self ∷ others_in fleet_mode c.pass_lines.new.self (behind g c)) c.self.inside.counts counts)
     (sym counted)
-    (print_in_step (text g c) (look g c) c.in-Some.from (first ∷ others_in formation first (before g c))
-    (c.pass_lines.new.self ∷ others_in formation c.pass_lines.new.self (behind g c)) c.self.inside.counts
+    (print_in_step (text g c) (look g c) c.in-Some.from (first ∷ others_in fleet_mode first (before g c))
+    (c.pass_lines.new.self ∷ others_in fleet_mode c.pass_lines.new.self (behind g c)) c.self.inside.counts
     (running g c) (in_pcl g c) each))))

@@ -4,13 +4,13 @@ use Rattle.page_machine.specs.MachineState.{MachineState}
 use Rattle.sinks.specs.Owned.{event_of}
 use Rattle.sinks.specs.Recorder.{Recorded}
 use Rattle.sinks.proofs.Recording.{recorder_takes}
-use Rattle.preflight.specs.Standing.{StandsBy}
-use Rattle.preflight.specs.Carriers.Formation.{others_in, IsFormed}
+use Rattle.preflight.specs.CheckState.{StandsBy}
+use Rattle.preflight.specs.Carriers.FleetMode.{others_in, IsFormed}
 use Rattle.verdict.specs.declared.failure.Failure.{Failure}
 use Rattle.preflight.specs.Carriers.Lockstep.{action_of, AllAdmit, AreRunning, Compared, CountsPages, FindsAt, Fleet, FoundFrom, GoesInStep}
 use Rattle.preflight.specs.Carriers.Lockstep.{StopsFor, StopsThere}
 use Rattle.preflight.proofs.Executing.{does_by, fails_by, pages_recorded, parted, step_recorded, was_running, written_back}
-use Rattle.preflight.proofs.Standings.{closed_on, open_is, open_on}
+use Rattle.preflight.proofs.CheckStates.{closed_on, open_is, open_on}
 use Rattle.preflight.proofs.lockstep.Lockstep.execute_on_each.Goals as goal
 
 -- where a recorder refuses an event it is as before
@@ -19,7 +19,7 @@ recorder_refuses old event new = new ≡ old
 
 pub part-requires : goal.part-requires
 part-requires g c =
-    subst (IsFormed c.self.inside.formation c.self.inside.first) (sym c.deref_mut.ensures.value)
+    subst (IsFormed c.self.inside.fleet_mode c.self.inside.first) (sym c.deref_mut.ensures.value)
     (c.self.invariant (subst (λ (f : Fleet). AreRunning f.machines) (sym c.self.view_is) c.requires.running).0)
 
 pub execute_by-answer-requires : goal.execute_by-answer-requires
@@ -62,7 +62,7 @@ execute_by_others-requires-clause-running g c =
     let before = c.self.inside in
     let n = before.others.len in
     let stand =
-    parted before.formation before.first n before.others.items c.deref_mut.result.now c.part.new.others c.deref_mut-2.result.now
+    parted before.fleet_mode before.first n before.others.items c.deref_mut.result.now c.part.new.others c.deref_mut-2.result.now
     c.deref_mut-2.ensures.value c.part.ensures c.deref_mut.ensures.value (omega (arith, c.part.auto.others, c.deref_mut.ensures.len))
     (omega (arith, before.others.ok.0)) in
     subst AreRunning (sym stand) (subst (λ (f : Fleet). AreRunning f.machines) (sym c.self.view_is) c.requires.running).1
@@ -72,7 +72,7 @@ execute_by_others-requires-clause-admitted g c =
     let before = c.self.inside in
     let n = before.others.len in
     let stand =
-    parted before.formation before.first n before.others.items c.deref_mut.result.now c.part.new.others c.deref_mut-2.result.now
+    parted before.fleet_mode before.first n before.others.items c.deref_mut.result.now c.part.new.others c.deref_mut-2.result.now
     c.deref_mut-2.ensures.value c.part.ensures c.deref_mut.ensures.value (omega (arith, c.part.auto.others, c.deref_mut.ensures.len))
     (omega (arith, before.others.ok.0)) in
     let action = action_of c.args.task.now in
@@ -92,7 +92,7 @@ returns-then-not-execute_by_others-clause-came g c =
     let others = c.execute_by_others.new.others in
     let counts = c.execute_by_others.new.counts in
     let lent = c.deref_mut-2.result.now in
-    let stood : List MachineState = others_in before.formation before.first before.others.items in
+    let stood : List MachineState = others_in before.fleet_mode before.first before.others.items in
     let begun : Recorded = record { events = []; counts = before.counts } in
     let events = map event_of c.events-events.result.now in
     let did =
@@ -102,20 +102,20 @@ returns-then-not-execute_by_others-clause-came g c =
     let len : length before.others.items ≡ n = omega (arith, before.others.ok.0) in
     let parted_len : length c.part.new.others ≡ n = omega (arith, c.part.auto.others, c.deref_mut.ensures.len) in
     let stand =
-    parted before.formation before.first n before.others.items c.deref_mut.result.now c.part.new.others lent
+    parted before.fleet_mode before.first n before.others.items c.deref_mut.result.now c.part.new.others lent
     c.deref_mut-2.ensures.value c.part.ensures c.deref_mut.ensures.value parted_len len in
     let whole : take n (others ++ drop (length others) items) ≡ others =
     written_back n items others (omega (arith, c.execute_by_others.auto.others, c.deref_mut-2.ensures.len))
     (omega (arith, ap length (sym c.deref_mut-2.ensures.value), c.deref_mut-2.ensures.len)) in
     subst
-    (λ (f : Fleet). StandsBy c.execute_by_others.new.standing (λ failed.
+    (λ (f : Fleet). StandsBy c.execute_by_others.new.state (λ failed.
     GoesInStep action c.args.place f.machines (first ∷ take n (others ++ drop (length others) items)) f.counts counts failed))
     c.self.view_is
     (closed_on
     (λ failed. Compared action c.args.place events 2 lent others failed
     × CountsPages action before.counts.pages counts.pages 2 lent failed × StopsFor action 2 lent others failed)
     (GoesInStep action c.args.place (before.first ∷ stood) (first ∷ take n (others ++ drop (length others) items)) before.counts counts)
-    c.execute_by_others.new.standing (sym c.execute_by_others.ensures.open ∙ c.if-not-execute_by_others.true)
+    c.execute_by_others.new.state (sym c.execute_by_others.ensures.open ∙ c.if-not-execute_by_others.true)
     (λ failure compared.
     let fails : Option Failure = Some failure in
     subst (λ xs. GoesInStep action c.args.place (before.first ∷ stood) (first ∷ xs) before.counts counts fails) (sym whole)
@@ -138,7 +138,7 @@ returns-clause-came g c =
     let others = c.execute_by_others.new.others in
     let counts = c.counts-self-inside-2.result in
     let lent = c.deref_mut-2.result.now in
-    let stood : List MachineState = others_in before.formation before.first before.others.items in
+    let stood : List MachineState = others_in before.fleet_mode before.first before.others.items in
     let begun : Recorded = record { events = []; counts = before.counts } in
     let events = map event_of c.events-events.result.now in
     let did =
@@ -148,21 +148,21 @@ returns-clause-came g c =
     let len : length before.others.items ≡ n = omega (arith, before.others.ok.0) in
     let parted_len : length c.part.new.others ≡ n = omega (arith, c.part.auto.others, c.deref_mut.ensures.len) in
     let stand =
-    parted before.formation before.first n before.others.items c.deref_mut.result.now c.part.new.others lent
+    parted before.fleet_mode before.first n before.others.items c.deref_mut.result.now c.part.new.others lent
     c.deref_mut-2.ensures.value c.part.ensures c.deref_mut.ensures.value parted_len len in
     let whole : take n (others ++ drop (length others) items) ≡ others =
     written_back n items others (omega (arith, c.execute_by_others.auto.others, c.deref_mut-2.ensures.len))
     (omega (arith, ap length (sym c.deref_mut-2.ensures.value), c.deref_mut-2.ensures.len)) in
     let none : Option Failure = None in
     subst
-    (λ (f : Fleet). StandsBy c.execute_by_others.new.standing (λ failed.
+    (λ (f : Fleet). StandsBy c.execute_by_others.new.state (λ failed.
     GoesInStep action c.args.place f.machines (first ∷ take n (others ++ drop (length others) items)) f.counts counts failed))
     c.self.view_is
     (open_on
     (λ failed. Compared action c.args.place events 2 lent others failed
     × CountsPages action before.counts.pages c.execute_by_others.new.counts.pages 2 lent failed × StopsFor action 2 lent others failed)
     (GoesInStep action c.args.place (before.first ∷ stood) (first ∷ take n (others ++ drop (length others) items)) before.counts counts)
-    c.execute_by_others.new.standing (sym c.execute_by_others.ensures.open ∙ c.if-not-execute_by_others.false)
+    c.execute_by_others.new.state (sym c.execute_by_others.ensures.open ∙ c.if-not-execute_by_others.false)
     (λ compared.
     subst (λ xs. GoesInStep action c.args.place (before.first ∷ stood) (first ∷ xs) before.counts counts none) (sym whole)
     (step_recorded action c.args.place before.first first stood others begun c.restart.new.self after did.0 _ counts none

@@ -1,7 +1,7 @@
 use Rattle.std.proofs.Common.{◌≡◌, ◌+◌, ◌-◌, ℕ, ◌∷◌, List, inl, inr, refl, sym, subst, arith}
 use Rattle.std.proofs.lemmas.Option.{IfSome_then}
 use Rattle.page_machine.specs.MachineState.{MachineState}
-use Rattle.preflight.specs.Carriers.Formation.{others_in}
+use Rattle.preflight.specs.Carriers.FleetMode.{others_in}
 use Rattle.preflight.specs.Carriers.Lockstep.{Fleet, machines_of}
 use Rattle.preflight.specs.Stood.{IsThere}
 use Rattle.preflight.proofs.lockstep.Lockstep.machine.Goals as goal
@@ -20,7 +20,7 @@ returns g c =
     IfSome_then c.machine_behind.result c.machine_behind.ensures
     (λ machine there.
     subst (λ (f : Fleet). IsThere number 1 machine.now (machines_of f)) c.self.view_is
-    (subst (λ formation. IsThere number 1 machine.now (first ∷ others_in formation first before.others.items)) (sym c.in-Apart.is)
+    (subst (λ fleet_mode. IsThere number 1 machine.now (first ∷ others_in fleet_mode first before.others.items)) (sym c.in-Apart.is)
     (inr
     (subst (λ (ms : List MachineState). IsThere number 2 machine.now ms) c.deref.ensures.value
     (subst (λ k. IsThere k 2 machine.now c.deref.result.now) same there)))))

@@ -11,7 +11,7 @@ invariant_of-self g c = λ runs.
     let item : Entry = Parameterized c.in-Parameterized.command (amount c.in-Parameterized.n) in
     let running = (subst (λ (f : Fleet). AreRunning f.machines) (sym c.self.view_is) c.requires.running).0 in
     let goes = c.command_goes_as_one.ensures c.if-not-command_goes_as_one.false (amount c.in-Parameterized.n) others in
-    as_one_formed c.items_run_on_like_printers.ensures item before.formation before.counts c.step_command-answer.new.sink before.first
+    as_one_formed c.items_run_on_like_printers.ensures item before.fleet_mode before.counts c.step_command-answer.new.sink before.first
     c.step_command-answer.new.self others (c.self.invariant running) goes
     c.step_command-answer.result running runs c.step_command-answer.ensures
 
@@ -22,7 +22,7 @@ returns-then-judge-clause-came g c =
     let item : Entry = Parameterized c.in-Parameterized.command (amount c.in-Parameterized.n) in
     let running = (subst (λ (f : Fleet). AreRunning f.machines) (sym c.self.view_is) c.requires.running).0 in
     let goes = c.command_goes_as_one.ensures c.if-not-command_goes_as_one.false (amount c.in-Parameterized.n) others in
-    item_in_step c.items_run_on_like_printers.ensures item before.formation before.counts c.step_command-answer.new.sink before.first
+    item_in_step c.items_run_on_like_printers.ensures item before.fleet_mode before.counts c.step_command-answer.new.sink before.first
     c.step_command-answer.new.self others (c.self.invariant running) goes
     (simple_view c.args.read.item) (ap simple_view c.in-Parameterized.is) c.args.self.now c.self.view_is c.args.read.place
     c.step_command-answer.result c.judge.new.self c.judge.ensures.standing c.step_command-answer.ensures
@@ -34,7 +34,7 @@ returns-clause-came g c =
     let item : Entry = Parameterized c.in-Parameterized.command (amount c.in-Parameterized.n) in
     let running = (subst (λ (f : Fleet). AreRunning f.machines) (sym c.self.view_is) c.requires.running).0 in
     let goes = c.command_goes_as_one.ensures c.if-not-command_goes_as_one.false (amount c.in-Parameterized.n) others in
-    item_in_step c.items_run_on_like_printers.ensures item before.formation before.counts c.step_command-answer.new.sink before.first
+    item_in_step c.items_run_on_like_printers.ensures item before.fleet_mode before.counts c.step_command-answer.new.sink before.first
     c.step_command-answer.new.self others (c.self.invariant running) goes
     (simple_view c.args.read.item) (ap simple_view c.in-Parameterized.is) c.args.self.now c.self.view_is c.args.read.place
     c.step_command-answer.result c.judge.new.self c.judge.ensures.standing c.step_command-answer.ensures

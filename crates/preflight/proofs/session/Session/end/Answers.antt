@@ -11,7 +11,8 @@ pub returns-clause-exact : goal.returns-clause-exact
 returns-clause-exact g c =
     IfOk-weaker c.verdict.result (λ verdict.
     (fleet : List Printer) (bytes : List ℕ) → HasChecked fleet bytes c.args.self →
-    IsJudgementOn fleet bytes verdict c.verdict.new.self.culprit (page_with verdict c.verdict.new.self.counts) c.verdict.new.self.machines)
+    IsJudgementOn fleet bytes verdict c.verdict.new.self.failing_item (page_with verdict c.verdict.new.self.counts)
+    c.verdict.new.self.machines)
     (λ verdict. (fleet : List Printer) (bytes : List ℕ) → HasChecked fleet bytes c.args.self → IsExact fleet bytes verdict)
     (λ verdict ended fleet bytes checked. (ended fleet bytes checked).0) c.verdict.ensures.ended
 
@@ -19,7 +20,8 @@ pub returns-clause-headline : goal.returns-clause-headline
 returns-clause-headline g c =
     IfOk-weaker c.verdict.result (λ verdict.
     (fleet : List Printer) (bytes : List ℕ) → HasChecked fleet bytes c.args.self →
-    IsJudgementOn fleet bytes verdict c.verdict.new.self.culprit (page_with verdict c.verdict.new.self.counts) c.verdict.new.self.machines)
+    IsJudgementOn fleet bytes verdict c.verdict.new.self.failing_item (page_with verdict c.verdict.new.self.counts)
+    c.verdict.new.self.machines)
     (λ verdict. (fleet : List Printer) (bytes : List ℕ) → HasChecked fleet bytes c.args.self → VerdictHolds fleet bytes verdict)
     (λ verdict ended fleet bytes checked. (ended fleet bytes checked).1) c.verdict.ensures.ended
 

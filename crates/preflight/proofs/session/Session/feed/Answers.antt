@@ -1,20 +1,20 @@
 use Rattle.std.proofs.Common.{◌≡◌, ◌-◌, [], ◌++◌, take, drop, length, sym, ap, ◌∙◌, inr, rules, arith}
 use Rattle.std.proofs.lemmas.Result.{err_from_is_err_and}
 use Rattle.preflight.specs.Session.{SessionState}
-use Rattle.preflight.proofs.Sessions.{checks_on_none, judged_in_part, judged_not_open, judged_not_stopped, judged_standing, not_turns}
+use Rattle.preflight.proofs.Sessions.{checks_on_none, judged_in_part, judged_not_open, judged_not_stopped, judged_state, not_turns}
 use Rattle.preflight.proofs.Sessions.{part_checked, part_is, part_judged, part_split, still_judged, stopped_by, stopped_not_open}
 use Rattle.preflight.proofs.session.Session.feed.Goals as goal
 
 pub returns-in-Judged-clause-fed : goal.returns-in-Judged-clause-fed
 returns-in-Judged-clause-fed g c =
     still_judged c.args.self.now c.args.piece.now c.in-Judged.field-0
-    (sym (ap (λ (s : SessionState). s.standing) c.self.view_is) ∙ c.in-Judged.is)
+    (sym (ap (λ (s : SessionState). s.state) c.self.view_is) ∙ c.in-Judged.is)
 
 pub returns-in_err-came-clause-stopped : goal.returns-in_err-came-clause-stopped
 returns-in_err-came-clause-stopped g c =
     let same = err_from_is_err_and c.from_residual.result c.from_residual.ensures.1 in
     let came = c.in_err-came.ensures (c.args.self.now, tt) _ c.loop-rest.invariant.2 in
-    rw (same.1, same.2) (stopped_by c.in_err-came.field-0.0 c.piece.new.self.standing came.0.0 came.0.1)
+    rw (same.1, same.2) (stopped_by c.in_err-came.field-0.0 c.piece.new.self.state came.0.0 came.0.1)
 
 pub returns-in_err-came-clause-turns : goal.returns-in_err-came-clause-turns
 returns-in_err-came-clause-turns g c = λ is.
@@ -36,7 +36,7 @@ returns-in_err-came-clause-errors g c = λ is.
 pub returns-in_err-came-clause-total : goal.returns-in_err-came-clause-total
 returns-in_err-came-clause-total g c = λ is.
     let came = c.in_err-came.ensures (c.args.self.now, tt) _ c.loop-rest.invariant.2 in
-    absurd (stopped_not_open c.piece.new.self.standing _ came.0.1 is)
+    absurd (stopped_not_open c.piece.new.self.state _ came.0.1 is)
 
 pub loop-rest-preserved : goal.loop-rest-preserved
 loop-rest-preserved g c =
@@ -67,8 +67,8 @@ returns-in-Some-clause-stopped g c =
     let part = take c.min-count.result c.loop-rest.rest.now in
     let mid = c.loop-rest.self in
     let came = c.in_ok-came.ensures (mid, tt) [] (checks_on_none mid so_far.2.is_open so_far.2.open_input so_far.2.wants_more) in
-    judged_not_stopped c.piece.new.self.standing c.in-Some.field-0
-    (judged_standing mid c.piece.new.self part c.in-Some.field-0 (search rules)
+    judged_not_stopped c.piece.new.self.state c.in-Some.field-0
+    (judged_state mid c.piece.new.self part c.in-Some.field-0 (search rules)
     (part_judged mid c.piece.new.self [] part c.in_ok-came.came came c.in-Some.field-0 c.in-Some.is))
 
 pub returns-in-Some-clause-total : goal.returns-in-Some-clause-total
@@ -77,7 +77,7 @@ returns-in-Some-clause-total g c = λ is.
     let part = take c.min-count.result c.loop-rest.rest.now in
     let mid = c.loop-rest.self in
     let came = c.in_ok-came.ensures (mid, tt) [] (checks_on_none mid so_far.2.is_open so_far.2.open_input so_far.2.wants_more) in
-    absurd (judged_not_open c.piece.new.self.standing c.in-Some.field-0
-    (judged_standing mid c.piece.new.self part c.in-Some.field-0 (search rules)
+    absurd (judged_not_open c.piece.new.self.state c.in-Some.field-0
+    (judged_state mid c.piece.new.self part c.in-Some.field-0 (search rules)
     (part_judged mid c.piece.new.self [] part c.in_ok-came.came came c.in-Some.field-0 c.in-Some.is))
     is)

@@ -9,7 +9,7 @@ returns-in-Open-clause-ended g c =
     let ready = c.self.invariant c.in-Open.is in
     let session = c.args.self.now in
     let goes =
-    checks_on_none session (sym (ap (λ (s : SessionState). s.standing) c.self.view_is) ∙ c.in-Open.is)
+    checks_on_none session (sym (ap (λ (s : SessionState). s.state) c.self.view_is) ∙ c.in-Open.is)
     (subst (λ (s : SessionState). s.lexer.ended ≡ false) c.self.view_is ready.0)
     (subst (λ (s : SessionState). WantsMore s.lexer) c.self.view_is ready.1) in
     end_right session c.end.new.self c.end.result (c.end.ensures (session, tt) [] goes)
@@ -26,4 +26,4 @@ returns-in-Open-clause-errors g c = λ is.
 pub returns-in-Judged-clause-ended : goal.returns-in-Judged-clause-ended
 returns-in-Judged-clause-ended g c = λ fleet bytes checked.
     judged_before c.args.self.now c.args.self.now fleet bytes checked c.in-Judged.verdict
-    (sym (ap (λ (s : SessionState). s.standing) c.self.view_is) ∙ c.in-Judged.is)
+    (sym (ap (λ (s : SessionState). s.state) c.self.view_is) ∙ c.in-Judged.is)

@@ -2,13 +2,13 @@ use Rattle.std.proofs.Common.{◌≡◌, ◌+◌, ◌++◌, ℕ, List, false, le
 use Rattle.pcl_lexer.specs.Lexing.State.{LexerState}
 use Rattle.pcl_lexer.specs.Lexing.Meaning.{MayBe}
 use Rattle.pcl_lexer.specs.Modes.{mode_of}
-use Rattle.preflight.specs.Standing.{is_open}
+use Rattle.preflight.specs.CheckState.{is_open}
 use Rattle.preflight.specs.Carriers.Checking.{FailsBy}
 use Rattle.preflight.specs.Carriers.Lockstep.{AreIn, counts_of, machines_of}
 use Rattle.preflight.specs.Session.{ChecksOn, SessionState}
 use Rattle.preflight.proofs.Answered.{came_open, goes_open}
 use Rattle.preflight.proofs.Sessions.{checks_more, judged_by_piece, out_of_memory}
-use Rattle.preflight.proofs.Standings.{judged_stands, stopped_stands}
+use Rattle.preflight.proofs.CheckStates.{judged_stands, stopped_stands}
 use Rattle.preflight.proofs.UnderWay.{executed_fed}
 use Rattle.preflight.proofs.session.SessionConsumerUnit.piece.Goals.{in-Open, in-Judged, in-Stopped}
 use Rattle.preflight.proofs.session.SessionConsumerUnit.piece.Goals as goal
@@ -20,7 +20,7 @@ fed_ok (Err e) is h = absurd cc
 
 pub execute_decided-requires-clause-may : goal.execute_decided-requires-clause-may
 execute_decided-requires-clause-may g c =
-    let is = ap (λ (s : SessionState). s.standing) c.self.view_is ∙ c.requires.room.0 in
+    let is = ap (λ (s : SessionState). s.state) c.self.view_is ∙ c.requires.room.0 in
     let ready = c.self.invariant is in
     let fed = fed_ok c.feed.result (sym c.is_err.ensures.value ∙ c.if-is_err.false) c.feed.ensures.ok in
     record {
@@ -40,16 +40,16 @@ returns g c = λ first bytes goes.
       machines = machines_of here.machines;
       counts = counts_of here.machines;
       total = inside.total;
-      standing = here.standing;
-      culprit = here.culprit;
+      state = here.state;
+      failing_item = here.failing_item;
     } in
     let after : SessionState = record {
       lexer = new.lexer;
       machines = machines_of new.machines;
       counts = counts_of new.machines;
       total = inside.total + length piece;
-      standing = new.standing;
-      culprit = new.culprit;
+      state = new.state;
+      failing_item = new.failing_item;
     } in
     let before : ChecksOn first.0 bytes old = subst (ChecksOn first.0 bytes) (sym c.self.view_is) goes in
     let fed = fed_ok c.feed.result (sym c.is_err.ensures.value ∙ c.if-is_err.false) c.feed.ensures.ok in
@@ -59,23 +59,23 @@ returns g c = λ first bytes goes.
     elim c.match-self.branch [
       | in-Open w ↦
           let is = ap is_open w.in-Open.is in
-          let on = (goes_open _ new.lexer (machines_of new.machines) new.standing is went.goes_on).1 not_ended in
+          let on = (goes_open _ new.lexer (machines_of new.machines) new.state is went.goes_on).1 not_ended in
           rw w.result-is
           (checks_more first.0 old after bytes before piece w.in-Open.is refl (went.ended ∙ not_ended) on.0
           (λ fleet base executed.
           let came =
-          came_open _ _ _ new.lexer _ (machines_of new.machines) _ (counts_of new.machines) new.standing is went.came fleet (base ++ piece)
+          came_open _ _ _ new.lexer _ (machines_of new.machines) _ (counts_of new.machines) new.state is went.came fleet (base ++ piece)
           (executed_fed fleet base piece here.lexer c.feed.new.self (machines_of here.machines) (counts_of here.machines) reads executed) in
           came.0))
       | in-Judged w ↦
           let verdict = w.in-Judged.verdict in
-          let judged = judged_stands new.standing _ verdict w.in-Judged.is went.came in
+          let judged = judged_stands new.state _ verdict w.in-Judged.is went.came in
           rw w.result-is
           (judged_by_piece first.0 old after bytes before c.fails_say.ensures piece judged.0 verdict judged.1 w.in-Judged.is
           (λ fleet base executed.
           subst
           (λ ended. (job : List ℕ) → MayBe ended (base ++ piece) job →
-          FailsBy fleet job judged.0 new.culprit (counts_of new.machines) (machines_of new.machines))
+          FailsBy fleet job judged.0 new.failing_item (counts_of new.machines) (machines_of new.machines))
           not_ended
           (judged.2 fleet (base ++ piece)
           (executed_fed fleet base piece here.lexer c.feed.new.self (machines_of here.machines)
@@ -83,5 +83,5 @@ returns g c = λ first bytes goes.
       | in-Stopped w ↦
           let error = w.in-Stopped.error in
           rw w.result-is
-          (out_of_memory new.standing error w.in-Stopped.is (stopped_stands new.standing _ error w.in-Stopped.is went.goes_on))
+          (out_of_memory new.state error w.in-Stopped.is (stopped_stands new.state _ error w.in-Stopped.is went.goes_on))
     ]

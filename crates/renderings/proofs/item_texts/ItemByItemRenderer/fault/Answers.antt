@@ -1,6 +1,6 @@
 use Rattle.std.proofs.Common.{refl, sym, [], append-nil}
 use Rattle.pcl_lexer.specs.Reading.{Stopped}
-use Rattle.renderings.specs.Due.{item_by_item}
+use Rattle.renderings.specs.Expected.{item_by_item}
 use Rattle.renderings.proofs.Renderings.{last_told}
 use Rattle.renderings.proofs.item_texts.ItemByItemRenderer.fault.Goals as goal
 

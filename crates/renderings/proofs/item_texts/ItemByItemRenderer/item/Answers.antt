@@ -1,7 +1,7 @@
 use Rattle.std.proofs.Common.{◌≡◌, ◌++◌, ℕ, List, refl}
 use Rattle.pcl_items.specs.Items.{Placed, at, view}
 use Rattle.pcl_lexer.specs.Reading.{Reading, Whole, Stopped, with_item}
-use Rattle.renderings.specs.Due.{item_by_item}
+use Rattle.renderings.specs.Expected.{item_by_item}
 use Rattle.renderings.proofs.Renderings.{item_cut, item_none, same_outcome}
 use Rattle.renderings.proofs.item_texts.ItemByItemRenderer.item.Goals as goal
 

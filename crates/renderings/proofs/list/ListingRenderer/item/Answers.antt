@@ -1,6 +1,6 @@
 use Rattle.pcl_items.specs.Items.{at, view}
 use Rattle.line_words.specs.ItemLines.{item_line}
-use Rattle.renderings.specs.Due.{list_rendering}
+use Rattle.renderings.specs.Expected.{list_rendering}
 use Rattle.renderings.proofs.Renderings.{item_cut, item_none, list_goes}
 use Rattle.renderings.proofs.list.ListingRenderer.item.Goals as goal
 

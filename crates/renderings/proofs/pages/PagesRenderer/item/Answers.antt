@@ -88,7 +88,7 @@ returns-in-Err-Refused-clause-rendered g c =
     (item_of c.args.self.now.machine (view c.args.item.now)) false _ c.step.new.sink c.args.self.now.machine c.step.new.self)
     is c.step.ensures in
     let refused = executed.2 in
-    let led = led_all g.W.Outlet.state _ refused.mid refused.before.events c.requires.working refused.before.leads in
+    let led = led_all g.W.Outlet.state _ refused.mid refused.took.events c.requires.working refused.took.leads in
     let same_outlet = refused.refused.0 ∙ led.same_outlet in
     let same_kept = refused.refused.1 ∙ led.same_kept in
     let outlet_is : sink.outlet.now ≡ c.outlet-in-Err-Refused-1.given.0 = search rules in
@@ -110,7 +110,7 @@ returns-in-Err-Refused-clause-status g c =
     (item_of c.args.self.now.machine (view c.args.item.now)) false _ c.step.new.sink c.args.self.now.machine c.step.new.self)
     is c.step.ensures in
     let refused = executed.2 in
-    let led = led_all g.W.Outlet.state _ refused.mid refused.before.events c.requires.working refused.before.leads in
+    let led = led_all g.W.Outlet.state _ refused.mid refused.took.events c.requires.working refused.took.leads in
     let same_outlet = refused.refused.0 ∙ led.same_outlet in
     let same_kept = refused.refused.1 ∙ led.same_kept in
     let outlet_is : sink.outlet.now ≡ c.outlet-in-Err-Refused-1.given.0 = search rules in

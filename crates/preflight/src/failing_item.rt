@@ -3,7 +3,7 @@
 ghost use Rattle.std.specs.Prelude.{◌≡◌, ℕ, List};
 ghost use Rattle.pcl_items.specs.Items.{Entry, WithData, simple_view, view};
 ghost use Rattle.page_machine.specs.Still.{is_one_step, may_close};
-ghost use Rattle.preflight.specs.Culprit.{IsCulprit, Names};
+ghost use Rattle.preflight.specs.FailingItem.{IsFailingItem, Names};
 ghost use Rattle.preflight.specs.Where.{page_with};
 
 use device_profile::FontRequest;
@@ -13,7 +13,7 @@ use verdict::Verdict;
 
 /// The item that a job fails at, without its data.
 #[derive(Clone, Copy, Debug, PartialEq, Eq)]
-pub enum Culprit {
+pub enum FailingItem {
     /// A byte of text.
     Text(u8),
     /// An item that has no data.
@@ -46,7 +46,7 @@ pub struct Judgement {
     pub verdict: Verdict,
     /// The item at the place of a Fail. None for a Pass, for a fault of the bytes, and for what is
     /// wrong at the end of the job.
-    pub culprit: Option<Culprit>,
+    pub failing_item: Option<FailingItem>,
     /// The page that is open where the job fails: 1, and one for each page that ended before. None
     /// for a Pass.
     ///
@@ -62,28 +62,28 @@ pub struct Judgement {
     pub font: Option<MissingFont>,
 }
 
-impl Culprit {
+impl FailingItem {
     /// What is told of an item.
-    pub fn of(item: &Item<'_>) -> Culprit
-        ensures { IsCulprit result (view item.now) }
+    pub fn of(item: &Item<'_>) -> FailingItem
+        ensures { IsFailingItem result (view item.now) }
     {
         match item {
-            Item::Text(byte) => Culprit::Text(byte.code),
-            Item::Simple(item) => Culprit::Simple(*item),
-            Item::WithData(command, data) => Culprit::WithData(*command, data.bytes.len()),
-            Item::PjlLine(_) => Culprit::Line,
+            Item::Text(byte) => FailingItem::Text(byte.code),
+            Item::Simple(item) => FailingItem::Simple(*item),
+            Item::WithData(command, data) => FailingItem::WithData(*command, data.bytes.len()),
+            Item::PjlLine(_) => FailingItem::Line,
         }
     }
 
     /// Whether it is one step on the page.
     pub fn is_one_step(&self) -> bool
-        ensures { (item : Entry) → IsCulprit self.now item → is_one_step item ≡ result }
+        ensures { (item : Entry) → IsFailingItem self.now item → is_one_step item ≡ result }
     {
         match self {
-            Culprit::Text(_) => true,
-            Culprit::Simple(item) => is_step(item),
-            Culprit::WithData(command, _) => is_row(*command),
-            Culprit::Line => true,
+            FailingItem::Text(_) => true,
+            FailingItem::Simple(item) => is_step(item),
+            FailingItem::WithData(command, _) => is_row(*command),
+            FailingItem::Line => true,
         }
     }
 }
@@ -148,8 +148,8 @@ pub(crate) fn page_with(verdict: Verdict, counts: Counts) -> Option<u64>
 /// Tells the item.
 // A call of its own, so that the items that go on clear no room for what is told.
 #[inline(never)]
-pub(crate) fn tell(item: &Item<'_>, culprit: &mut Option<Culprit>)
-    ensures { Names culprit.new (view item.now) }
+pub(crate) fn tell(item: &Item<'_>, failing_item: &mut Option<FailingItem>)
+    ensures { Names failing_item.new (view item.now) }
 {
-    *culprit = Some(Culprit::of(item));
+    *failing_item = Some(FailingItem::of(item));
 }

@@ -51,9 +51,9 @@ fn check_pieces(
     for piece in job.chunks(size) {
         session.feed(piece)?;
     }
-    let before = session.culprit();
+    let before = session.failing_item();
     assert!(rt;
-        before == None || before == whole.culprit,
+        before == None || before == whole.failing_item,
         "{job:?} in pieces of {size}"
     );
     let page = session.page();

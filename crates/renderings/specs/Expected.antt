@@ -28,8 +28,8 @@ pub record Rendering : Type 0 where
   pub at_fault : List Placed → ℕ → LexCause → List ℕ
 
 -- the text is what is due for the job's one reading, and the outcome is what comes of it
-abbrev pub IsDue : Rendering → List ℕ → List ℕ → Outcome → Type 0
-IsDue rendering job text outcome =
+abbrev pub IsExpected : Rendering → List ℕ → List ℕ → Outcome → Type 0
+IsExpected rendering job text outcome =
     (reading : Reading) × IsReading job reading × (text ≡ rendering.text reading)
     × (outcome ≡ rendering.outcome reading)
 
@@ -66,17 +66,18 @@ pub record LeavesTextOpen (rendering : Rendering) (pieces : List (List ℕ)) : T
 -- Each read between old and new was needed:
 -- what those before the last one gave leaves the text open, and the last one gave at most 4096 bytes.
 pub record TextNeedsReads (rendering : Rendering) (old new : SourceState) : Type 0 where
-  pub before : List (List ℕ)
+  pub pieces_before : List (List ℕ)
   pub last : List ℕ
-  pub given : new.given ≡ old.given ++ (before ++ last ∷ [])
+  pub given : new.given ≡ old.given ++ (pieces_before ++ last ∷ [])
   pub short : length last ≤ 4096
-  pub left_open : LeavesTextOpen rendering before
+  pub left_open : LeavesTextOpen rendering pieces_before
 
 -- what the reads between old and new gave, but for the last one or not even that, leaves the text open
 abbrev pub TextWasOpen : Rendering → SourceState → SourceState → Type 0
 TextWasOpen rendering old new =
-    (before : List (List ℕ)) × (last : List (List ℕ)) × (new.given ≡ old.given ++ (before ++ last)) × (length last ≤ 1)
-    × LeavesTextOpen rendering before
+    (pieces_before : List (List ℕ)) × (last : List (List ℕ)) × (new.given ≡ old.given ++ (pieces_before ++ last)) ×
+    (length last ≤ 1)
+    × LeavesTextOpen rendering pieces_before
 
 -- what the reads between old and new gave leaves the text open
 abbrev pub TextStaysOpen : Rendering → SourceState → SourceState → Type 0
@@ -87,11 +88,11 @@ TextStaysOpen rendering old new =
 
 -- A text was written, and nothing else, and of every job that may be by what the reads gave it is what is due.
 -- Each of them was needed.
-pub record WritesDue (rendering : Rendering) (source source' : SourceState)
+pub record WritesExpected (rendering : Rendering) (source source' : SourceState)
     (outlet outlet' : OutletState) (outcome : Outcome) : Type 0 where
   pub text : List ℕ
   pub adds : Adds outlet outlet' text
-  pub due : ByReads source source' (λ job. IsDue rendering job text outcome)
+  pub due : ByReads source source' (λ job. IsExpected rendering job text outcome)
   pub needed : TextNeedsReads rendering source source'
 
 -- Some front was written, and nothing else, of what is due for the bytes that the reads gave, taken as a whole job.
@@ -130,7 +131,7 @@ pub record WritesDecided (rendering : Rendering) (source source' : SourceState)
 -- `Turns` means 2^40 reads without an end.
 pub record Renders (rendering : Rendering) (source source' : SourceState)
     (outlet outlet' : OutletState) (result : Result Outcome Error) : Type 0 where
-  pub written : IfOk result (WritesDue rendering source source' outlet outlet')
+  pub written : IfOk result (WritesExpected rendering source source' outlet outlet')
   pub front : IfErr result (λ _. WritesFront rendering source source' outlet outlet')
   pub decided : IsErrOf result Read → WritesDecided rendering source source' outlet outlet'
   pub read : source'.failed ≡ is_err_of_read result

@@ -2,8 +2,8 @@ use Rattle.std.proofs.Common.{◌≡◌, ◌==◌, true, false, length, ap, sym,
 use Rattle.std.specs.List.{AllByRecursion}
 use Rattle.std.proofs.lemmas.List.{take_all}
 use Rattle.device_profile.specs.Likeness.{IsLike}
-use Rattle.preflight.proofs.Formations.{one_more}
-use Rattle.preflight.proofs.lockstep.formation_of.Goals as goal
+use Rattle.preflight.proofs.FleetModes.{one_more}
+use Rattle.preflight.proofs.lockstep.fleet_mode_of.Goals as goal
 
 pub loop-other-init : goal.loop-other-init
 loop-other-init g c = tt

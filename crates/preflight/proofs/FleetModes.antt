@@ -18,10 +18,10 @@ use Rattle.page_machine.specs.Event.{Event}
 use Rattle.page_machine.specs.Likeness.{standing_as, RunsOnBoth, RunsOnLike}
 use Rattle.page_machine.specs.MachineState.{MachineState}
 use Rattle.page_machine.specs.Run.{Run}
-use Rattle.preflight.specs.declared.lockstep.Formation.{Formation}
-use Rattle.preflight.specs.declared.lockstep.Formation.TheVariants.{Alone, Together, Apart}
+use Rattle.preflight.specs.declared.lockstep.FleetMode.{FleetMode}
+use Rattle.preflight.specs.declared.lockstep.FleetMode.TheVariants.{Alone, Together, Apart}
 use Rattle.preflight.specs.Carriers.Each.{Each}
-use Rattle.preflight.specs.Carriers.Formation.{others_in, KnowsNoMacro, Follows, IsFormed, AskAlike, GoesAsOne, NoneDefines, StandsAs}
+use Rattle.preflight.specs.Carriers.FleetMode.{others_in, KnowsNoMacro, Follows, IsFormed, AskAlike, GoesAsOne, NoneDefines, StandsAs}
 use Rattle.preflight.specs.Carriers.Lockstep.{Execute, Does}
 
 module _ (law : (item : Entry) → RunsOnLike item) (item : Entry) (events : List Event) (first first' : MachineState)
@@ -81,15 +81,15 @@ module _ (law : (item : Entry) → RunsOnLike item) (item : Entry) (events : Lis
   still_knows_none (m ∷ others) none follow some asks = first_knows_none m follow.0.0 asks.0 none
 
   -- what the first does all do, and they stand so again
-  pub all_do : (formation : Formation) (others : List MachineState) → IsFormed formation first others →
-      GoesAsOne formation first others item →
-      Each (Does (Execute item) events) (first ∷ others_in formation first others) (first' ∷ others_in formation first' others)
+  pub all_do : (fleet_mode : FleetMode) (others : List MachineState) → IsFormed fleet_mode first others →
+      GoesAsOne fleet_mode first others item →
+      Each (Does (Execute item) events) (first ∷ others_in fleet_mode first others) (first' ∷ others_in fleet_mode first' others)
   all_do Alone others formed goes = (does, tt)
   all_do Together others formed goes = (does, followers_do others formed.0 formed.1 goes.0 goes.1)
   all_do Apart others formed goes = absurd goes
 
-  pub still_formed : (formation : Formation) (others : List MachineState) → IsFormed formation first others →
-      GoesAsOne formation first others item → IsFormed formation first' others
+  pub still_formed : (fleet_mode : FleetMode) (others : List MachineState) → IsFormed fleet_mode first others →
+      GoesAsOne fleet_mode first others item → IsFormed fleet_mode first' others
   still_formed Alone others formed goes = formed
   still_formed Together others formed goes =
       (still_knows_none others formed.0 formed.1 formed.2 goes.1, still_follow others formed.1, formed.2)

@@ -1,8 +1,8 @@
 //! How far a check has come.
 ghost use Rattle.std.specs.Prelude.{◌≡◌, ◌≢◌, false, IfErr};
 ghost use Rattle.streams.specs.declared.error.Error.TheVariants.{Memory};
-ghost use Rattle.preflight.specs.declared.standing.Standing.TheVariants.{Open};
-ghost use Rattle.preflight.specs.Standing.{StandsAfter, is_open};
+ghost use Rattle.preflight.specs.declared.check_state.CheckState.TheVariants.{Open};
+ghost use Rattle.preflight.specs.CheckState.{StandsAfter, is_open};
 ghost use Rattle.verdict.specs.Failing.{failing};
 
 use page_machine::Stop;
@@ -15,7 +15,7 @@ use verdict::{Failure, Verdict};
 /// What executes items writes it where it is kept, and answers whether it is still open. So the way
 /// of the items that go on hands no failure up.
 #[derive(Clone, Copy)]
-pub enum Standing {
+pub enum CheckState {
     /// Nothing is wrong so far.
     Open,
     /// This is the verdict, whatever follows.
@@ -24,13 +24,13 @@ pub enum Standing {
     Stopped(Error),
 }
 
-impl Standing {
+impl CheckState {
     /// The job fails, whatever follows. It is not open any more, which is the answer.
     pub fn fail(&mut self, failure: Failure) -> bool
-        ensures standing { self.new ≡ Standing.Judged (failing failure) }
+        ensures standing { self.new ≡ CheckState.Judged (failing failure) }
         ensures closed { result ≡ false }
     {
-        *self = Standing::Judged(failure.verdict());
+        *self = CheckState::Judged(failure.verdict());
         false
     }
 
@@ -56,10 +56,10 @@ impl Standing {
 
     /// The allocator refused a request. It is not open any more, which is the answer.
     fn refuse(&mut self) -> bool
-        ensures standing { self.new ≡ Standing.Stopped Memory }
+        ensures standing { self.new ≡ CheckState.Stopped Memory }
         ensures closed { result ≡ false }
     {
-        *self = Standing::Stopped(Error::Memory);
+        *self = CheckState::Stopped(Error::Memory);
         false
     }
 }
