@@ -18,7 +18,7 @@ ghost use Rattle.picture_command.specs.PageSearch.{sentence, spot_of, spot_where
 use device_profile::{Panel, Profile};
 use job_reports::{PrinterGroup, Report, push_job_sentence, push_named_first};
 use line_words::push_named;
-use page_env::{Finding, SheetPlace, known_cursor};
+use page_env::{Finding, known_cursor};
 use page_machine::{Machine, Start, Stop};
 use pcl_items::{Item, LexFault, Place};
 use preflight::{FailingItem, Judgement, SheetSpot, Verdict};
@@ -82,24 +82,13 @@ fn finish_on<P: Allocator, B: Allocator + Copy>(
     }
 }
 
-/// A place as it is told.
-fn spot_at(place: SheetPlace) -> SheetSpot
-    ensures x { result.x ≡ place.x }
-    ensures y { result.y ≡ place.y }
-{
-    SheetSpot {
-        x: place.x,
-        y: place.y,
-    }
-}
-
 /// Where the cursor of a machine stands, if no panel decides that.
 fn spot_of<P: Allocator, B: Allocator + Copy>(machine: &Machine<'_, P, B>) -> Option<SheetSpot>
     ensures { result ≡ spot_of machine.now.printer (state_at any_panel machine.now.page) }
 {
     match known_cursor(machine.profile(), machine.page()) {
         Err(_) => None,
-        Ok(place) => Some(spot_at(place)),
+        Ok(place) => Some(SheetSpot::of(place)),
     }
 }
 

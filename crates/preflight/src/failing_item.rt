@@ -7,6 +7,7 @@ ghost use Rattle.preflight.specs.FailingItem.{IsFailingItem, Names};
 ghost use Rattle.preflight.specs.Where.{page_with};
 
 use device_profile::FontRequest;
+use page_env::SheetPlace;
 use pcl_items::{Command, DataCommand, Item, SimpleItem};
 use sinks::Counts;
 use verdict::Verdict;
@@ -60,6 +61,19 @@ pub struct Judgement {
     /// The font that the item of a finding asked for, where no face answers that: 13 NoFont. None
     /// where the panel decides it, and for what is more than one step on the page.
     pub font: Option<MissingFont>,
+}
+
+impl SheetSpot {
+    /// A place on the sheet, as it is told.
+    pub fn of(place: SheetPlace) -> SheetSpot
+        ensures x { result.x ≡ place.x }
+        ensures y { result.y ≡ place.y }
+    {
+        SheetSpot {
+            x: place.x,
+            y: place.y,
+        }
+    }
 }
 
 impl FailingItem {

@@ -8,7 +8,7 @@ ghost use Rattle.preflight.specs.Stood.{LacksFont, IsFinder, IsOfStopped, IsSpot
 use crate::failing_item::{FailingItem, MissingFont, SheetSpot};
 use crate::lockstep::Lockstep;
 use device_profile::nearest_request;
-use page_env::{Finding, SheetPlace, font_request, known_cursor};
+use page_env::{Finding, font_request, known_cursor};
 use page_machine::Machine;
 use std::alloc::Allocator;
 use verdict::{Reason, Verdict};
@@ -49,24 +49,13 @@ fn stopped<'l, 'p, A: Allocator + Copy, P: Allocator>(
     machines.machine(number)
 }
 
-/// A place as it is told.
-fn spot_at(place: SheetPlace) -> SheetSpot
-    ensures x { result.x ≡ place.x }
-    ensures y { result.y ≡ place.y }
-{
-    SheetSpot {
-        x: place.x,
-        y: place.y,
-    }
-}
-
 /// Where the cursor of a machine stands, if that is known whatever the panel.
 fn spot_of<A: Allocator + Copy, P: Allocator>(machine: &Machine<'_, P, A>) -> Option<SheetSpot>
     ensures { IfSome result (λ spot. IsSpotOf machine.now spot) }
 {
     match known_cursor(machine.profile(), machine.page()) {
         Err(_) => None,
-        Ok(place) => Some(spot_at(place)),
+        Ok(place) => Some(SheetSpot::of(place)),
     }
 }
 
