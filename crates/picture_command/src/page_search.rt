@@ -343,7 +343,8 @@ impl<B: Allocator + Copy> Renderer for PageSearch<'_, '_, B> {
                 Ok(Outcome::Done)
             }
             Some(finding) => {
-                self.tell_failure(kept, Failure::of_finding(place, 1, finding), None, None, None)
+                let failure = Failure::of_finding(place, 1, finding);
+                self.tell_failure(kept, failure, None, None, None)
             }
         }
     }
