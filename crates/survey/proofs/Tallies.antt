@@ -1,6 +1,6 @@
 -- Jobs that are tallied one behind another, and what is told of that.
-use Rattle.std.proofs.Common.{◌≡◌, ◌⊎◌, ℕ, suc, ◌+◌, ◌<◌, ◌≤◌, List, [], ◌∷◌, ◌++◌, length, map, take, get_or, true, false, refl, ap, sym, subst}
-use Rattle.std.proofs.Common.{◌∙◌, IfErr, OnOk, Result, drop, inl, inr, arith, length-take-le}
+use Rattle.std.proofs.Common.{◌≡◌, ◌⊎◌, ℕ, ◌+◌, ◌<◌, ◌≤◌, List, [], ◌∷◌, ◌++◌, length, map, take, get_or, true, false, refl, ap, sym, subst}
+use Rattle.std.proofs.Common.{◌∙◌, IfErr, OnOk, Result, drop, suc, inl, inr, arith, length-take-le}
 use Rattle.std.proofs.Math.Seq.{split_at}
 use Rattle.std.proofs.lemmas.Result.{IfErr-weaker, on_ok_weaker}
 use Rattle.std.proofs.lemmas.List.{length-map, map-append, map_more, take_all}
