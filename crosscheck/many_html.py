@@ -1,10 +1,10 @@
 """The document of jobs, against what is due of it: a reading of its own, by a parser of HTML."""
 
 import re
+from base64 import b64decode
 from dataclasses import dataclass, field
 from html.parser import HTMLParser
 from typing import Dict, List, Optional, Tuple
-from urllib.parse import unquote_to_bytes
 
 from kinds import kind_of
 from many_due import Told
@@ -16,7 +16,7 @@ TOO_LARGE = "The picture of the page is too large for this document; the command
     "pclcheck draws it."
 CAPTIONS = {"PASS": "The first page, from the first settings of the panel",
             "FAIL": "The page at which the job fails, from the first settings of the panel"}
-ADDRESS = "data:image/svg+xml,"
+ADDRESS = "data:image/svg+xml;base64,"
 MOST_LISTED, MOST_OF_PICTURE = 4_000, 1_000_000
 # What has no end, and what would load something.
 VOID = ("meta", "input", "img")
@@ -60,7 +60,7 @@ class Document(HTMLParser):
             self.row = Row(given.get("class", ""), given.get("data-printer", ""))
             self.rows.append(self.row)
         elif tag == "img" and self.row:
-            self.row.pictures.append(unquote_to_bytes(given["src"][len(ADDRESS):]))
+            self.row.pictures.append(picture_at(given["src"]))
         elif tag == "li":
             self.printers.append("")
         elif self.row:
@@ -82,6 +82,14 @@ class Document(HTMLParser):
 
     def handle_comment(self, data: str) -> None:
         self.wrong.append(f"a comment: {data!r}")
+
+
+def picture_at(address: str) -> bytes:
+    """The picture that an address has; nothing where it has none."""
+    try:
+        return b64decode(address[len(ADDRESS):], validate=True)
+    except ValueError:
+        return b""
 
 
 @dataclass(frozen=True)

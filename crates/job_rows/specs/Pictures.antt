@@ -1,9 +1,10 @@
 -- The picture of a page, in a job's row.
 use Rattle.std.specs.Prelude.{ℕ, ◌==◌, List, [], ◌++◌, codes, length, if◌then◌else◌, Result, Ok, Err}
+use Rattle.base64.specs.Engines.{standard}
+use Rattle.base64.specs.GeneralPurpose.{encode_of}
 use Rattle.streams.specs.declared.error.Error.{Error}
 use Rattle.verdict.specs.declared.verdict.Verdict.{Verdict}
 use Rattle.verdict.specs.declared.verdict.Verdict.TheVariants.{Pass, Fail}
-use Rattle.job_rows.specs.Escapes.{address_text}
 
 -- which page it is
 abbrev pub caption : Result Verdict Error → List ℕ
@@ -11,12 +12,16 @@ caption (Ok (Pass pages marks)) = codes "The first page"
 caption (Ok (Fail place profile reason)) = codes "The page at which the job fails"
 caption (Err error) = []
 
+-- the bytes of a picture in its address: the Base64 of RFC 4648, of letters, digits, `+`, `/` and `=`
+unfoldable pub address_text : List ℕ → List ℕ
+address_text picture = encode_of standard picture
+
 -- A picture of its own, so that nothing in it reaches the document: an address that has all of it.
 -- It is taken apart only once it is looked at.
 unfoldable pub figure : Result Verdict Error → List ℕ → List ℕ
 figure answer picture =
     codes "<figure>\n<figcaption>" ++ caption answer
-    ++ codes ", from the first settings of the panel</figcaption>\n<img loading=\"lazy\" alt=\"\" src=\"data:image/svg+xml,"
+    ++ codes ", from the first settings of the panel</figcaption>\n<img loading=\"lazy\" alt=\"\" src=\"data:image/svg+xml;base64,"
     ++ address_text picture ++ codes "\">\n</figure>\n"
 
 -- a large picture is left to the command that draws it
