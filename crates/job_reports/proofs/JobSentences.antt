@@ -37,7 +37,7 @@ use Rattle.line_words.specs.Figures.{escaped_byte, named}
 use Rattle.device_profile.specs.Field.{field_name}
 use Rattle.line_words.specs.Reason.{bare_cause_name, bare_finding_name, bare_name, brackets, name_words, reason_words, short_cause}
 use Rattle.line_words.specs.Reason.{short_finding, short_reason, named_byte}
-use Rattle.shown_bytes.specs.Decimals.{amount, digit, magnitude_text, minus, with_hundredths}
+use Rattle.shown_bytes.specs.Decimals.{amount as shown_amount, digit, magnitude_text, minus, with_hundredths}
 use Rattle.shown_bytes.specs.Lengths.{millimetres, signed_hundredths}
 use Rattle.shown_bytes.specs.Lettered.{lettered}
 use Rattle.shown_bytes.specs.Shown.{shown, shown_byte, shown_text}
@@ -209,18 +209,18 @@ place_part place page cursor h k s =
 
 -- a number of so many ten-thousandths between two texts
 amount_behind : {most : ℕ} (front : List ℕ) (n : ℕ) (back : List ℕ) → IsWithin most front → n < 2 ^ 32 → IsWithin 1 back →
-    IsWithin (most + 12) (front ++ amount n ++ back)
+    IsWithin (most + 12) (front ++ shown_amount n ++ back)
 amount_behind front n back f h k =
-    wider _ _ (omega arith) (joined (front ++ amount n) back (joined front (amount n) f (amount_part n h)) k)
+    wider _ _ (omega arith) (joined (front ++ shown_amount n) back (joined front (shown_amount n) f (amount_part n h)) k)
 
 setting_part : (font : FontRequest) → IsRequestOfNumbers font → IsWithin 36 (setting_words font)
 unfolding setting_words
 setting_part font h =
-    let spacing : List ℕ = amount font.spacing ++ codes "p" in
-    let pitch : List ℕ = spacing ++ amount font.pitch ++ codes "h" in
+    let spacing : List ℕ = shown_amount font.spacing ++ codes "p" in
+    let pitch : List ℕ = spacing ++ shown_amount font.pitch ++ codes "h" in
     amount_behind pitch font.height (codes "v")
     (amount_behind spacing font.pitch (codes "h")
-    (joined (amount font.spacing) (codes "p") (amount_part font.spacing h.spacing) (literal 1 _ refl refl)) h.pitch
+    (joined (shown_amount font.spacing) (codes "p") (amount_part font.spacing h.spacing) (literal 1 _ refl refl)) h.pitch
     (literal 1 _ refl refl))
     h.height (literal 1 _ refl refl)
 
@@ -231,10 +231,10 @@ weight_part weight h = amount_behind (minus weight) (unsigned_abs weight) (codes
 look_part : (font : FontRequest) → IsRequestOfNumbers font → IsWithin 37 (look_words font)
 unfolding look_words
 look_part font h =
-    let style : List ℕ = amount font.style ++ codes "s" in
+    let style : List ℕ = shown_amount font.style ++ codes "s" in
     amount_behind (style ++ weight_words font.weight) font.typeface (codes "T")
     (joined style (weight_words font.weight)
-    (joined (amount font.style) (codes "s") (amount_part font.style h.style) (literal 1 _ refl refl)) (weight_part font.weight h.weight))
+    (joined (shown_amount font.style) (codes "s") (amount_part font.style h.style) (literal 1 _ refl refl)) (weight_part font.weight h.weight))
     h.typeface (literal 1 _ refl refl)
 
 font_commands_part : (font : FontRequest) → IsRequestOfNumbers font → IsWithin 97 (font_commands font)
