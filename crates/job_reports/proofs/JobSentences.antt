@@ -234,7 +234,8 @@ look_part font h =
     let style : List ℕ = shown_amount font.style ++ codes "s" in
     amount_behind (style ++ weight_words font.weight) font.typeface (codes "T")
     (joined style (weight_words font.weight)
-    (joined (shown_amount font.style) (codes "s") (amount_part font.style h.style) (literal 1 _ refl refl)) (weight_part font.weight h.weight))
+    (joined (shown_amount font.style) (codes "s") (amount_part font.style h.style) (literal 1 _ refl refl))
+    (weight_part font.weight h.weight))
     h.typeface (literal 1 _ refl refl)
 
 font_commands_part : (font : FontRequest) → IsRequestOfNumbers font → IsWithin 97 (font_commands font)
