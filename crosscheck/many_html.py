@@ -14,8 +14,13 @@ from many_notes import note_text
 ONCE = "This job can be read only once, so no page of it is drawn."
 TOO_LARGE = "The picture of the page is too large for this document; the command picture of " \
     "pclcheck draws it."
-CAPTIONS = {"PASS": "The first page, from the first settings of the panel",
-            "FAIL": "The page at which the job fails, from the first settings of the panel"}
+FIRST_PAGE = "The first page, from the first settings of the panel"
+FAILING_PAGE = "The page at which the job fails, from the first settings of the panel"
+# By the number: of these two no failure is seen.
+CAPTIONS = {
+    12: "The page as it prints from the first settings of the panel; others may print it otherwise",
+    33: "The page as it prints on this printer; the first one prints it otherwise",
+}
 ADDRESS = "data:image/svg+xml;base64,"
 MOST_LISTED, MOST_OF_PICTURE = 4_000, 1_000_000
 # What has no end, and what would load something.
@@ -122,6 +127,11 @@ def badges(told: Told, command: Optional[str]) -> List[Tuple[str, str]]:
     return []
 
 
+def caption(told: Told) -> str:
+    """Which page a picture is of, and what is seen of it."""
+    return CAPTIONS.get(told.code, FAILING_PAGE) if told.verdict == "FAIL" else FIRST_PAGE
+
+
 def body(told: Told, explanations: Dict[int, bytes], further: Further) -> List[Tuple[str, str]]:
     """What a row opens to."""
     found = []
@@ -138,7 +148,7 @@ def body(told: Told, explanations: Dict[int, bytes], further: Further) -> List[T
     if len(further.picture) > MOST_OF_PICTURE:
         found.append(("p", TOO_LARGE))
     elif further.picture:
-        found += [("figure", ""), ("figcaption", CAPTIONS[told.verdict])]
+        found += [("figure", ""), ("figcaption", caption(told))]
     return found
 
 

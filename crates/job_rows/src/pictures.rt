@@ -1,8 +1,10 @@
 //! The picture of a page, in a job's row.
 ghost use Rattle.std.specs.Prelude.{◌≡◌, ◌++◌, IfOk, OnOk, string_bytes};
-ghost use Rattle.job_rows.specs.Pictures.{address_text, caption, figure, picture_part, too_large};
+ghost use Rattle.job_rows.specs.Pictures.{address_text, caption, failing_caption, figure};
+ghost use Rattle.job_rows.specs.Pictures.{picture_part, too_large};
 
 use base64::engine::general_purpose::STANDARD;
+use job_reports::{Kind, kind_of};
 use preflight::Verdict;
 use std::alloc::{AllocError, Allocator};
 use streams::Error;
@@ -47,8 +49,8 @@ fn push_figure<A: Allocator + Copy>(
     text.extend_from_slice(b"<figure>\n<figcaption>")?;
     text.extend_from_slice(caption(answer))?;
     text.extend_from_slice(
-        b", from the first settings of the panel</figcaption>\n\
-        <img loading=\"lazy\" alt=\"\" src=\"data:image/svg+xml;base64,",
+        b"</figcaption>\n\
+        <img loading=\"lazy\" alt=\"The page\" src=\"data:image/svg+xml;base64,",
     )?;
     push_address(alloc, text, picture)?;
     text.extend_from_slice(b"\">\n</figure>\n")
@@ -76,13 +78,32 @@ fn address_of<A: Allocator>(alloc: A, picture: &[u8]) -> Result<String<A>, Alloc
     Ok(address)
 }
 
-/// Which page it is.
+/// Which page it is, and what is seen of it.
 fn caption(answer: Result<Verdict, Error>) -> &'static [u8]
     ensures { result.now ≡ caption answer }
 {
     match answer {
-        Ok(Verdict::Pass { .. }) => b"The first page",
-        Ok(Verdict::Fail { .. }) => b"The page at which the job fails",
+        Ok(Verdict::Pass { .. }) => b"The first page, from the first settings of the panel",
+        // What a caption tells apart is known without the item.
+        Ok(Verdict::Fail { finding, .. }) => failing_caption(kind_of(finding, None)),
         Err(_) => b"",
+    }
+}
+
+/// What is seen of the page at which a job fails by this kind.
+fn failing_caption(kind: Kind) -> &'static [u8]
+    ensures { result.now ≡ failing_caption kind }
+{
+    match kind {
+        Kind::Unchecked | Kind::Wrong | Kind::Printer => {
+            b"The page at which the job fails, from the first settings of the panel"
+        }
+        Kind::Panel => {
+            b"The page as it prints from the first settings of the panel; \
+            others may print it otherwise"
+        }
+        Kind::Differs => {
+            b"The page as it prints on this printer; the first one prints it otherwise"
+        }
     }
 }

@@ -5,7 +5,7 @@ use Rattle.job_rows.proofs.pictures.push_figure.Goals as goal
 
 abbrev behind : List ℕ
 behind =
-    codes ", from the first settings of the panel</figcaption>\n<img loading=\"lazy\" alt=\"\" src=\"data:image/svg+xml;base64,"
+    codes "</figcaption>\n<img loading=\"lazy\" alt=\"The page\" src=\"data:image/svg+xml;base64,"
 
 pub returns : goal.returns
 unfolding figure
