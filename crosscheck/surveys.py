@@ -45,7 +45,6 @@ INNER = re.compile(rb"(?:[-+.0-9]*[`-~])*")
 LATER = re.compile(rb"\x1b([&*(][`-~])(?:[-+.0-9]*[`-~])+\Z")
 PAIR = re.compile(rb"(?:[A-Za-z]{2})?[\t\n\r ]*[-+]?[0-9]*(?:\.[0-9]*)?[\t\n\r ]*,?[\t\n\r ]*"
                   rb"[-+]?[0-9]*(?:\.[0-9]*)?")
-ENTERS = re.compile(rb" +ENTER +LANGUAGE", re.IGNORECASE)
 # The words of lines that are told by them, of which the first that a line has counts.
 LANGUAGES = ("PCL3GUI", "PCLXL", "POSTSCRIPT")
 WORDS = [f"ENTER LANGUAGE={language}" for language in LANGUAGES] + [
@@ -54,6 +53,8 @@ WORDS = [f"ENTER LANGUAGE={language}" for language in LANGUAGES] + [
     "INITIALIZE", "INQUIRE", "JOB", "OPMSG", "RDYMSG", "RESET", "SET", "STMSG", "USTATUS",
     "USTATUSOFF"]
 BLANK = r"[\t\r ]"
+ENTERS = re.compile(rf"PJL{BLANK}+ENTER{BLANK}+LANGUAGE(?!{BLANK}*={BLANK}*PCL{BLANK}*\Z)"
+                    .encode(), re.IGNORECASE)
 EXIT = b"\x1b%-12345X"
 SECONDS = 60
 
@@ -153,6 +154,10 @@ def cut(job: bytes, number: int) -> List[Told]:
     return [Told(len(job), number, "the end of the job")]
 
 
+def unended(place: int, number: int) -> List[Told]:
+    return [Told(place, number, "ESC without an end")]
+
+
 def line_called(line: bytes) -> str:
     """A line by its words: blanks count behind a word, and else not."""
     text = line.decode("latin-1")
@@ -169,7 +174,7 @@ def behind_line(job, place, number):
     told = [Told(place, number, line_called(job[place:] if end < 0 else job[place:end]))]
     if end < 0:
         return told, None
-    if not ENTERS.search(job[place + 1:end]):
+    if not ENTERS.match(job[place + 1:end]):
         return told, Stand(end + 1, PJL)
     end = job.find(EXIT, end + 1)
     return told, None if end < 0 else Stand(end + len(EXIT), PJL)
@@ -204,22 +209,22 @@ def behind_escape(job, place, number, mode):
     home = FRAME if mode == FRAME else PCL
     at = place + 1
     if at == len(job):
-        return cut(job, TRUNCATED), None
+        return unended(place, number), None
     byte = job[at]
     if 48 <= byte <= 126:
         return [Told(place, number, "ESC " + chr(byte))], Stand(at + 1, home)
     if not 33 <= byte <= 47:
-        return [Told(place, number, "ESC without an end")], Stand(at, home)
+        return unended(place, number), Stand(at, home)
     at += 1
     if at < len(job) and 96 <= job[at] <= 126:
         group = chr(byte) + chr(job[at])
         return behind_commands(job, place, at + 1, number, group, mode)
     at = NUMBER.match(job, at).end()
     if at == len(job):
-        return cut(job, TRUNCATED), None
+        return unended(place, number), None
     letter = job[at]
     if not 64 <= letter <= 94:
-        return [Told(place, number, "ESC without an end")], Stand(at, home)
+        return unended(place, number), Stand(at, home)
     name = f"ESC {chr(byte)}#{chr(letter)}"
     behind_it = {"%A": PCL, "%B": FRAME}.get(chr(byte) + chr(letter), home)
     return [Told(place, number, name)], Stand(at + 1, behind_it)
@@ -235,7 +240,7 @@ def behind_commands(job, place, at, number, group, mode):
         count = min(int(digits or 0), MOST_DATA)
         at = field.end()
         if at == len(job):
-            return told + cut(job, TRUNCATED), None
+            return told + unended(place, number), None
         letter = job[at]
         if 64 <= letter <= 94:
             told.append(Told(place, number, f"ESC {group}#{chr(letter)}"))
@@ -245,8 +250,7 @@ def behind_commands(job, place, at, number, group, mode):
                 return told + cut(job, TRUNCATED), None
             return told, Stand(at + 1 + count, home)
         if not 96 <= letter <= 126:
-            told.append(Told(place, number, "ESC without an end"))
-            return told, Stand(at, home)
+            return told + unended(place, number), Stand(at, home)
         command = group + chr(letter - 32)
         told.append(Told(place, number, f"ESC {group}#{chr(letter - 32)}"))
         at += 1 + (count if command in WITH_DATA else 0)

@@ -12,7 +12,8 @@ use Rattle.survey.specs.NamedLines.{line_at}
 abbrev pub name_or : List ℕ → List ℕ → List ℕ
 name_or name other = if length name == 0 then other else name
 
--- a command whose letter has no name is called as its group, or else as its introducer, as a fault names it
+-- a command whose letter has no name is called as its group, or as that of all letters, or else as its introducer, as a
+-- fault names it
 abbrev pub introduced_name : ℕ → List ℕ → List ℕ
 introduced_name introducer name = name_or name (command_name (introducer ∷ []))
 
@@ -20,6 +21,11 @@ abbrev pub grouped_name : (introducer group letter : ℕ) → List ℕ
 grouped_name introducer group letter =
     introduced_name introducer
     (name_or (command_name (introducer ∷ group ∷ letter ∷ [])) (command_name (introducer ∷ group ∷ [])))
+
+abbrev pub ungrouped_name : (introducer letter : ℕ) → List ℕ
+ungrouped_name introducer letter =
+    introduced_name introducer
+    (name_or (command_name (introducer ∷ letter ∷ [])) (command_name (introducer ∷ 35 ∷ [])))
 
 -- words of which the second has a name, or the first
 abbrev pub words_name : List ℕ → List ℕ
@@ -36,7 +42,7 @@ abbrev pub spelled_name : Spelled → List ℕ
 spelled_name (Control b) = command_name (120 ∷ hex_byte b)
 spelled_name (Sequence b) = command_name (b ∷ [])
 spelled_name (Grouped introducer group letter) = grouped_name introducer group letter
-spelled_name (Ungrouped introducer letter) = introduced_name introducer (command_name (introducer ∷ letter ∷ []))
+spelled_name (Ungrouped introducer letter) = ungrouped_name introducer letter
 spelled_name Unended = []
 spelled_name (Instruction first second) = command_name (first ∷ second ∷ [])
 spelled_name FrameBytes = []

@@ -6,6 +6,7 @@ use Rattle.pcl_items.specs.declared.pcl.command.Group.{Group}
 use Rattle.pcl_items.specs.Escapes.Commands.{group_at}
 use Rattle.pcl_items.specs.Frames.Mnemonics.{capital}
 use Rattle.pcl_items.specs.PjlLines.Exit.{exit_text}
+use Rattle.pcl_items.specs.PjlLines.Text.{is_blank}
 use Rattle.pcl_lexer.specs.declared.frame.Kind.{Kind}
 use Rattle.pcl_lexer.specs.declared.frame.Kind.TheVariants as kinds
 use Rattle.pcl_lexer.specs.Frames.Kinds.{kind_of}
@@ -193,19 +194,31 @@ in_packed b = if b == 59 then passes_to onto.Frame else if b == 27 then leaves o
 
 -- ---- lines of the job language, and other languages
 
-abbrev pub enter_language : List ℕ
-enter_language = codes " ENTER LANGUAGE"
+-- the words behind `@` of a line that enters PCL
+abbrev pub enter_pcl : List ℕ
+enter_pcl = codes "PJL ENTER LANGUAGE=PCL"
 
--- how many bytes of these words, in either case, stand in a line with one more byte; blanks between them count once
+-- a letter in either case, and one blank for all
+abbrev pub word_byte : ℕ → ℕ
+word_byte b = if is_blank b then 32 else capital b
+
+-- behind so many bytes of these words further blanks may stand: before ENTER, LANGUAGE, the equals sign, PCL, the end
+abbrev pub may_have_blanks : ℕ → Bool
+may_have_blanks matched =
+    (matched == 4) || (matched == 10) || (matched == 18) || (matched == 19) || (matched == 22)
+
+-- how many bytes of these words stand in a line with one more byte; 23 where it enters another language, 24 where it
+-- enters none
 abbrev pub line_matched : (matched b : ℕ) → ℕ
 line_matched matched b =
-    if nat_le 15 matched then matched
-    else if capital b == get_or enter_language matched 0 then matched + 1
-    else if b == 32 then (if matched == 7 then 7 else 1) else 0
+    if nat_lt matched 22 && (word_byte b == get_or enter_pcl matched 0) then matched + 1
+    else if may_have_blanks matched && is_blank b then matched
+    else if nat_lt matched 18 || (matched == 24) then 24 else 23
 
--- behind a line with these words another language stands
+-- behind a line that enters another language than PCL that language stands
 abbrev pub behind_line : ℕ → Onto
-behind_line matched = if matched == 15 then onto.Part (Foreign 0) else onto.Lines
+behind_line matched =
+    if nat_lt matched 18 || (matched == 22) || (matched == 24) then onto.Lines else onto.Part (Foreign 0)
 
 -- a line is told at its end, by its words
 abbrev pub in_line : Passing → (matched : ℕ) → NamedLine → (b : ℕ) → Turn

@@ -14,6 +14,7 @@ use Rattle.survey.specs.declared.part.Onto.{Onto}
 use Rattle.survey.specs.declared.part.Onto.TheVariants as onto
 use Rattle.survey.specs.declared.part.Part.{Part}
 use Rattle.survey.specs.declared.part.Part.TheVariants as parts
+use Rattle.survey.specs.declared.part.Passing.{Passing}
 use Rattle.survey.specs.declared.part.Turn.{Turn}
 use Rattle.survey.specs.NamedLines.{number_of}
 use Rattle.survey.specs.Passing.{passed, taken, told_of}
@@ -57,12 +58,16 @@ abbrev pub ends_so : Option LexCause → ℕ → Option Refusal
 ends_so None place = None
 ends_so (Some cause) place = Some (record { cause = cause; spelled = spellings.End; place = place })
 
+-- a sequence that is refused has no end there
+abbrev pub unended : Passing → Option Refusal
+unended passing = Some (told_of passing spellings.Unended)
+
 -- what is cut off there; a line is told by the words that it has
 abbrev pub cut_at : Part → ℕ → Option Refusal
-cut_at (parts.Escape passing) place = ends_so (Some Truncated) place
-cut_at (parts.Introduced passing introducer) place = ends_so (Some Truncated) place
-cut_at (parts.Grouped passing introducer group count) place = ends_so (Some Truncated) place
-cut_at (parts.Ungrouped passing introducer) place = ends_so (Some Truncated) place
+cut_at (parts.Escape passing) place = unended passing
+cut_at (parts.Introduced passing introducer) place = unended passing
+cut_at (parts.Grouped passing introducer group count) place = unended passing
+cut_at (parts.Ungrouped passing introducer) place = unended passing
 cut_at (parts.Data home n) place = ends_so (Some Truncated) place
 cut_at (parts.Inner passing introducer group n) place = ends_so (Some Truncated) place
 cut_at (parts.Second first second) place = ends_so (Some EndInFrame) place

@@ -3,7 +3,7 @@
 ghost use Rattle.std.specs.Prelude.{◌≡◌, ◌==◌, ◌++◌, OnOk};
 ghost use Rattle.std.specs.List.{after_first, before_first};
 ghost use Rattle.survey.specs.Names.{called, grouped_name, introduced_name, line_name};
-ghost use Rattle.survey.specs.Names.{name_or, spelled_name, words_name};
+ghost use Rattle.survey.specs.Names.{name_or, spelled_name, ungrouped_name, words_name};
 
 use crate::named_line::line_at;
 use crate::refusal::Spelled;
@@ -23,9 +23,7 @@ pub(crate) fn spelled_name(spelled: Spelled) -> &'static str
         }
         Spelled::Sequence(character) => command_name(&[character]),
         Spelled::Grouped(introducer, group, letter) => grouped_name(introducer, group, letter),
-        Spelled::Ungrouped(introducer, letter) => {
-            introduced_name(introducer, command_name(&[introducer, letter]))
-        }
+        Spelled::Ungrouped(introducer, letter) => ungrouped_name(introducer, letter),
         Spelled::Instruction(first, second) => command_name(&[first, second]),
         Spelled::Line(number) => line_name(line_at(number)),
         Spelled::Unended | Spelled::FrameBytes | Spelled::End => "",
@@ -38,6 +36,15 @@ fn grouped_name(introducer: u8, group: u8, letter: u8) -> &'static str
 {
     let own = command_name(&[introducer, group, letter]);
     let name = name_or(own, command_name(&[introducer, group]));
+    introduced_name(introducer, name)
+}
+
+/// The name of a command without a group, or of those of all letters, where its own has none.
+fn ungrouped_name(introducer: u8, letter: u8) -> &'static str
+    ensures { result.now ≡ ungrouped_name introducer letter }
+{
+    let own = command_name(&[introducer, letter]);
+    let name = name_or(own, command_name(&[introducer, b'#']));
     introduced_name(introducer, name)
 }
 

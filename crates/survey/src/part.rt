@@ -60,8 +60,8 @@ pub enum Part {
     Label,
     /// Numbers that are packed, up to a semicolon, as behind `PE`.
     Packed,
-    /// A line of the job language, of which so many bytes of ` ENTER LANGUAGE` stand before, and
-    /// which line it is so far.
+    /// A line of the job language, how far it enters PCL or another language, and which line it
+    /// is so far.
     Line(Passing, u8, NamedLine),
     /// Another language, of which so many bytes of the universal exit stand before.
     Foreign(u8),

@@ -1,6 +1,7 @@
 //! What of a refused command is passed over, byte by byte.
 
 ghost use Rattle.std.specs.Prelude.{◌≡◌, ◌<◌, ◌^◌};
+ghost use Rattle.pcl_items.specs.PjlLines.Text.{is_blank};
 ghost use Rattle.survey.specs.Passing.{
   back,
   behind_count,
@@ -31,10 +32,12 @@ ghost use Rattle.survey.specs.Passing.{
   is_field_byte,
   leaves,
   line_matched,
+  may_have_blanks,
   passed,
   passes_to,
   told_of,
   with_digit,
+  word_byte,
 };
 
 use crate::data_commands::has_data;
@@ -47,11 +50,15 @@ use pcl_lexer::Kind;
 /// The most bytes of data that a number counts.
 const MOST_DATA: u32 = 32_767;
 
-/// How many bytes the words ` ENTER LANGUAGE` are, behind which another language stands, and how
-/// many the first of them with the blanks about it.
-const WORDS_LEN: u8 = 15;
+/// How many bytes the words are that enter a language, and those that enter PCL.
+const ENTER_LEN: u8 = 18;
 
-const FIRST_WORD_LEN: u8 = 7;
+const ENTER_PCL_LEN: u8 = 22;
+
+/// What stands for a line that enters another language, and for one that enters none.
+const ENTERS_OTHER: u8 = 23;
+
+const ENTERS_NONE: u8 = 24;
 
 /// How many bytes the universal exit is, with which a language ends.
 const EXIT_LEN: u8 = 9;
@@ -439,27 +446,51 @@ fn in_line(passing: Passing, matched: u8, line: NamedLine, byte: u8) -> Turn
 fn behind_line(matched: u8) -> Onto
     ensures { result ≡ behind_line matched }
 {
-    if matched == WORDS_LEN {
-        Onto::Part(Part::Foreign(0))
-    } else {
+    if matched < ENTER_LEN || matched == ENTER_PCL_LEN || matched == ENTERS_NONE {
         Onto::Lines
+    } else {
+        Onto::Part(Part::Foreign(0))
     }
 }
 
-/// How many bytes of the words that enter a language stand in a line, with one more byte.
+/// How many bytes of the words that enter PCL stand in a line, with one more byte, or whether it
+/// enters another language or none.
 fn line_matched(matched: u8, byte: u8) -> u8
     ensures { result ≡ line_matched matched byte }
 {
-    if matched >= WORDS_LEN {
-        return matched;
-    }
-    if capital(byte) == byte_at(b" ENTER LANGUAGE", matched) {
+    if matched < ENTER_PCL_LEN && word_byte(byte) == byte_at(b"PJL ENTER LANGUAGE=PCL", matched) {
         return matched + 1;
     }
-    match byte {
-        b' ' if matched == FIRST_WORD_LEN => FIRST_WORD_LEN,
-        b' ' => 1,
-        _ => 0,
+    if may_have_blanks(matched) && is_blank(byte) {
+        return matched;
+    }
+    if matched < ENTER_LEN || matched == ENTERS_NONE {
+        ENTERS_NONE
+    } else {
+        ENTERS_OTHER
+    }
+}
+
+/// A letter in either case, and one blank for all.
+fn word_byte(byte: u8) -> u8
+    ensures { result ≡ word_byte byte }
+{
+    if is_blank(byte) { b' ' } else { capital(byte) }
+}
+
+fn is_blank(byte: u8) -> bool
+    ensures { result ≡ is_blank byte }
+{
+    byte == b'\t' || byte == b'\r' || byte == b' '
+}
+
+/// Whether further blanks may stand behind so many bytes of the words that enter PCL.
+fn may_have_blanks(matched: u8) -> bool
+    ensures { result ≡ may_have_blanks matched }
+{
+    match matched {
+        4 | 10 | 18 | 19 | 22 => true,
+        _ => false,
     }
 }
 

@@ -93,18 +93,17 @@ fn ends_so(cause: Option<LexCause>, place: Place) -> Option<Refusal>
     }
 }
 
-/// What is told at the end of the job of bytes that are passed over: of a line the words that it
-/// has.
+/// What is told at the end of the job of bytes that are passed over: of a sequence that it has no
+/// end, of a line the words that it has, and of data that they are cut off.
 fn cut_at(part: Part, place: Place) -> Option<Refusal>
     ensures { result ≡ cut_at part place }
 {
     match part {
-        Part::Escape(_)
-        | Part::Introduced(_, _)
-        | Part::Grouped(_, _, _, _)
-        | Part::Ungrouped(_, _)
-        | Part::Data(_, _)
-        | Part::Inner(_, _, _, _) => ends_so(Some(LexCause::Truncated), place),
+        Part::Escape(passing)
+        | Part::Introduced(passing, _)
+        | Part::Grouped(passing, _, _, _)
+        | Part::Ungrouped(passing, _) => Some(told_of(passing, Spelled::Unended)),
+        Part::Data(_, _) | Part::Inner(_, _, _, _) => { ends_so(Some(LexCause::Truncated), place) }
         Part::Second(_, _)
         | Part::Numbers
         | Part::Quoted
