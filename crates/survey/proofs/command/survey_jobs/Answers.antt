@@ -6,7 +6,7 @@ pub survey_with-requires : goal.survey_with-requires
 survey_with-requires g c =
     λ k. (
       (refl, tt),
-      (ap (λ (s : SurveyState). s.tally) c.new-surveyor.ensures, c.requires.stdout, c.requires.stderr),
+      (ap (λ (s : SurveyState). s.tally) c.new-surveyor.ensures, (c.requires.stdout, c.requires.stderr)),
     )
 
 pub returns : goal.returns
