@@ -1,6 +1,7 @@
 //! The commands by their rows, and the command line that they make up.
 
 use crate::check_words::{CHECK, EXPLANATION};
+use crate::compare_words::COMPARE;
 use crate::form_words::FORMAT;
 use crate::picture_words::PICTURE;
 use crate::profile_tool_words::{PROFILE_FROM_PJL, PROFILE_LINT, PROFILE_SHEET, PROFILE_SHOW};
@@ -57,6 +58,7 @@ pub(crate) enum CommandName {
     Program,
     Check,
     Survey,
+    Compare,
     List,
     Pages,
     Picture,
@@ -77,6 +79,7 @@ pub(crate) enum CommandName {
 const BELOW_PROGRAM: &[CommandName] = &[
     CommandName::Check,
     CommandName::Survey,
+    CommandName::Compare,
     CommandName::List,
     CommandName::Pages,
     CommandName::Picture,
@@ -104,6 +107,7 @@ impl CommandName {
             CommandName::Program => PROGRAM,
             CommandName::Check => CHECK,
             CommandName::Survey => SURVEY,
+            CommandName::Compare => COMPARE,
             CommandName::List => LIST,
             CommandName::Pages => PAGES,
             CommandName::Picture => PICTURE,

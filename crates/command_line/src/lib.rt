@@ -3,6 +3,7 @@
 
 mod check_words;
 mod commands;
+mod compare_words;
 mod form_words;
 mod many_words;
 mod panel_words;

@@ -8,6 +8,7 @@ pub(crate) fn short_help(name: CommandName) -> &'static str {
         CommandName::Program => PROGRAM,
         CommandName::Check => CHECK,
         CommandName::Survey => SURVEY,
+        CommandName::Compare => COMPARE,
         CommandName::List => LIST,
         CommandName::Pages => PAGES,
         CommandName::Picture => PICTURE,
@@ -28,6 +29,7 @@ pub(crate) fn short_help(name: CommandName) -> &'static str {
 const PROGRAM: &str = "Usage: pclcheck <COMMAND>
   check    the verdict on jobs for printers
   survey   all that is refused of jobs, without a verdict
+  compare  whether two jobs print the same
   list     each command of a job
   pages    each mark of a job on a printer
   picture  a page of a job, drawn
@@ -53,6 +55,12 @@ const SURVEY: &str = "Usage:
       a line for each kind of command that is refused, and how often
 
 'pclcheck survey --help' tells all.";
+
+const COMPARE: &str = "Usage:
+  pclcheck compare OLD NEW PROFILE..
+      whether NEW prints what OLD does, or the first difference
+
+'pclcheck compare --help' tells all.";
 
 const LIST: &str = "Usage:
   pclcheck list JOB
