@@ -18,8 +18,8 @@ sys.path.append(str(Path(__file__).resolve().parent.parent / "crosscheck"))
 
 from help_text import Command, Program                                 # noqa: E402
 
-NAMES = ("check", "survey", "list", "pages", "picture", "notes", "plain", "pin", "explain",
-         "profile", "profile list", "profile new", "profile lint", "profile show",
+NAMES = ("check", "survey", "compare", "list", "pages", "picture", "notes", "plain", "pin",
+         "explain", "profile", "profile list", "profile new", "profile lint", "profile show",
          "profile sheet", "profile from-pjl")
 HELP = "-h, --help"
 # Those of `check` stand in a section of their own, which is written by hand.

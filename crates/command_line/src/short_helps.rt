@@ -38,7 +38,6 @@ const PROGRAM: &str = "Usage: pclcheck <COMMAND>
   pin      a job that leaves nothing to the panel
   explain  what a finding means, and what to change
   profile  profiles: list, new, lint, show, sheet, from-pjl
-
 'pclcheck COMMAND -h' tells how a command is used, 'pclcheck --help' all.";
 
 const CHECK: &str = "Usage:
