@@ -98,7 +98,8 @@ WritesFound text end status out out' = (status ≡ end) × IsFalse out'.failed �
 abbrev pub found_at : ℕ → Comparison → Found
 found_at number comparison = record { number = number; comparison = comparison }
 
--- Both jobs were read, and this comes of them on the printer of this number; they are two more of those that were ended.
+-- Both jobs were read, and this comes of them on the printer of this number; they are two more of those that were
+-- ended.
 pub record IsCompared (start : List ℕ → SourceState) (old new : List ℕ) (number : ℕ) (printer : Printer)
     (comparison : Comparison) (ended ended' : List JobRead) : Type 0 where
   pub old_read : SourceState
@@ -196,7 +197,8 @@ RefusesPrinter known given given' asked status err err' =
     × TellsRefusal (format_of asked.form) end asked.printers status err err')
     ⊎ ((status ≡ Stopped Memory) × (err' ≡ err))
 
--- The jobs are compared on the printers of these texts; or there are no printers, no job is read and nothing written.
+-- The jobs are compared on the printers of these texts; or there are no printers, no job is read and nothing is
+-- written.
 abbrev pub LeavesCompared : (known : List (Option (List ℕ))) → (given given' : List (List ℕ)) → Asked →
     (List ℕ → SourceState) → Status → List JobRead → List JobRead → OutletState → OutletState → OutletState →
     OutletState → Type 0

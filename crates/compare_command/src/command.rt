@@ -2,9 +2,10 @@
 
 ghost use Rattle.std.specs.Prelude.{◌≡◌, ◌≢◌, ◌⊎◌, [], IfErr, IfOk, IsFalse, OnOk, map};
 ghost use Rattle.comparison.specs.Running.{IsErrorOfJob};
-ghost use Rattle.compare_command.specs.Compare.{AreCompared, AreOfTexts, IsCompared, LeavesCompared};
-ghost use Rattle.compare_command.specs.Compare.{LeavesFound, RefusesPrinter, StopsAt, WritesFound};
-ghost use Rattle.compare_command.specs.Compare.{asked_for, format_of, found_text, status_of};
+ghost use Rattle.compare_command.specs.Compare.{AreCompared, AreOfTexts, IsCompared};
+ghost use Rattle.compare_command.specs.Compare.{LeavesCompared, LeavesFound, RefusesPrinter};
+ghost use Rattle.compare_command.specs.Compare.{StopsAt, WritesFound, asked_for, format_of};
+ghost use Rattle.compare_command.specs.Compare.{found_text, status_of};
 ghost use Rattle.named_inputs.specs.Texts.{AsksInOrder};
 ghost use Rattle.sinks.specs.Counts.{no_counts};
 

@@ -1,6 +1,6 @@
 //! The program's command `compare`: whether two jobs print the same.
 //!
-//! `specs/Compare.antt` says what the command leaves, and `specs/Lines.antt`, `specs/Sentences.antt`
+//! `specs/Compare.antt` says what the command leaves, `specs/Lines.antt`, `specs/Sentences.antt`
 //! and `specs/Objects.antt` what is written of a comparison.
 #![tactic(auto)]
 

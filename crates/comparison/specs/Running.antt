@@ -140,7 +140,8 @@ EndsTo (On place) number total machine events = ⊥
 EndsTo More number total machine events = ⊥
 
 -- what one step came to, behind what was made of these bytes before
-abbrev pub StepsTo : Stepped → Printer → Panel → ℕ → List ℕ → List Made → LexerState → MachineState → List Event → Type 0
+abbrev pub StepsTo : Stepped → Printer → Panel → ℕ → List ℕ → List Made → LexerState → MachineState → List Event →
+    Type 0
 StepsTo (On place) printer panel number bytes made lexer machine events =
     IsUnderWay printer panel number bytes (made ++ made_at place events) lexer machine
 StepsTo More printer panel number bytes made lexer machine events =

@@ -29,7 +29,7 @@ pub enum Which {
 #[derive(Clone, Copy, Debug, PartialEq, Eq)]
 pub struct Unread {
     pub which: Which,
-    /// `Read` where a read of the job failed, `Turns` after 2^40 reads without its end, or `Memory`.
+    /// `Read` where a read of the job failed, `Turns` after 2^40 reads without an end, or `Memory`.
     pub error: Error,
 }
 

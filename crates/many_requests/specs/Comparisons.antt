@@ -46,7 +46,8 @@ abbrev pub LeavesOnFiles : Asked → Status → List FileUse → List FileUse �
 LeavesOnFiles asked status used used' out out' err err' =
     (IsFalse (reads_input_twice asked) × (ended : List JobRead) × (texts : List (List ℕ)) × (read_failed : Bool)
     × UsesAll asked.printers texts read_failed ended used used'
-    × LeavesCompared (map text_named asked.printers) [] texts asked (λ name. no_source) status [] ended out out' err err')
+    × LeavesCompared (map text_named asked.printers) [] texts asked (λ name. no_source) status [] ended out out' err
+    err')
     ⊎ (RefusesPipe (asked.old_name ∷ asked.new_name ∷ []) read_for_each status err err' × (out' ≡ out) × (used' ≡ used))
 
 -- so for the printers of the words and of the fleets, whose texts are read first; or one of these cannot be had
