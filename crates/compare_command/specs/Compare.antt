@@ -177,7 +177,8 @@ pub record AreOfTexts (known : List (Option (List ℕ))) (given given' : List (L
   pub names_are : names ≡ map printer_name texts
 
 abbrev pub telling_of : Asked → List (List ℕ) → Telling
-telling_of asked names = record { old_name = asked.old_name; new_name = asked.new_name; names = names; form = asked.form }
+telling_of asked names =
+    record { old_name = asked.old_name; new_name = asked.new_name; names = names; form = asked.form }
 
 -- For these printers: what is found is written, or one of the jobs cannot be compared and nothing is.
 abbrev pub LeavesFound : Asked → List Printer → List (List ℕ) → (List ℕ → SourceState) → Status → List JobRead →

@@ -117,8 +117,10 @@ fn read_printers<T: ProfileTexts, E: Outlet>(
             return Err(tell_refusal(alloc, &many, word, told, status, stderr));
         }
     };
-    let names = printer_names(alloc, kept.as_slice())?;
-    Ok(Printers { fleet, names })
+    match printer_names(alloc, kept.as_slice()) {
+        Ok(names) => Ok(Printers { fleet, names }),
+        Err(_) => Err(Status::Stopped(Error::Memory)),
+    }
 }
 
 /// A check of no job for the same printers, by whose form a refusal is told.
