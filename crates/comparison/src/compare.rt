@@ -14,6 +14,7 @@ use crate::difference::{Comparison, Difference, Spot};
 use crate::follower::Follower;
 use crate::running_job::RunningJob;
 use device_profile::Profile;
+use pcl_lexer::one_reading;
 use std::alloc::Allocator;
 use streams::{Error, Source};
 use verdict::Failure;
@@ -55,6 +56,7 @@ pub fn compare_jobs<S: Source, T: Source, A: Allocator + Copy, P: Allocator>(
     ensures new_read { (T.state new_job.new).failed ≡ is_unread Which.New result }
     ensures err { IfErr result (λ unread. IsErrorOfJob unread.error) }
 {
+    one_reading();
     let panel = profile.first_panel();
     let mut first = RunningJob::new(alloc, profile, &panel, number);
     let mut follower = Follower::new(alloc, profile, &panel, number);
