@@ -3,3 +3,4 @@ pub mod Comparison
 pub mod Running
 pub mod Comparing
 pub mod Laws
+pub mod Nearness
