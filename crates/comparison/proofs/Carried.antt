@@ -1,5 +1,5 @@
 -- What an item does on a machine that knows its panel, and what is still to come of the job behind it.
-use Rattle.std.proofs.Common.{◌≡◌, ℕ, false, unwrap_or, IsSome, List, [], ◌∷◌, ◌++◌, Option, None, Some, refl, ap, sym, ◌∙◌, subst, append-nil}
+use Rattle.std.proofs.Common.{◌≡◌, ℕ, false, unwrap_or, List, [], ◌∷◌, ◌++◌, Option, None, Some, refl, ap, sym, ◌∙◌, subst, append-nil}
 use Rattle.pcl_items.specs.declared.item.Mode.{Mode}
 use Rattle.pcl_items.specs.Modes.{follows}
 use Rattle.pcl_items.specs.Items.{Placed}
