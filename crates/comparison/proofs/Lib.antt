@@ -1,3 +1,4 @@
 pub mod Carried
+pub mod Comparisons
 pub mod Sameness
 pub mod Steps

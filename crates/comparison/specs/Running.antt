@@ -1,6 +1,6 @@
 -- What a job has come to that is carried out item by item, and what is still to come of it.
 use Rattle.std.specs.Prelude.{◌≡◌, ℕ, ◌+◌, ◌-◌, ◌*◌, ◌<◌, ◌≤◌, ◌^◌, List, [], ◌∷◌, ◌++◌, length, Bool, true, false}
-use Rattle.std.specs.Prelude.{Option, None, Some, if◌then◌else◌, ⊤}
+use Rattle.std.specs.Prelude.{IfSome, Option, None, Some, if◌then◌else◌, ⊤}
 use Rattle.std.specs.Io.KnownBytes.{Consumes}
 use Rattle.pcl_items.specs.Items.{Placed}
 use Rattle.pcl_items.specs.Modes.{follows}
@@ -67,6 +67,7 @@ pub record Gave (first now : SourceState) (ended : Bool) (bytes : List ℕ) : Ty
   pub given_is : now.given ≡ first.given ++ (pieces ++ (if ended then [] ∷ [] else []))
   pub spelled : Spell pieces bytes
   pub consumed : Consumes first.remaining now.remaining bytes
+  pub whole : ended ≡ true → IfSome first.remaining (λ job. bytes ≡ job)
 
 -- ---- what came of the job
 

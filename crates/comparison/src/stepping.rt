@@ -1,8 +1,9 @@
 //! One step of a job that is carried out: its next item, or its end.
 
-ghost use Rattle.std.specs.Prelude.{◌≡◌, ◌+◌, ℕ, List, [], IfErr, IfOk, IsSome, false, length};
+ghost use Rattle.std.specs.Prelude.{◌≡◌, ◌+◌, ℕ, List, [], IfErr, IfOk, Some, false, length};
 ghost use Rattle.device_profile.specs.Printer.{Printer};
 ghost use Rattle.device_profile.specs.declared.panel.Panel.{Panel};
+ghost use Rattle.pcl_items.specs.declared.item.Mode.{Mode};
 ghost use Rattle.pcl_items.specs.Items.{at, view};
 ghost use Rattle.pcl_items.specs.Modes.{follows};
 ghost use Rattle.pcl_lexer.specs.Modes.{mode_of};
@@ -83,7 +84,7 @@ fn carry_out<A: Allocator + Copy, P: Allocator>(
     item: &Item<'_>,
 ) -> Result<Stepped, Error>
     requires running { machine.old.stopped ≡ false }
-    requires admitted { IsSome (follows machine.old.mode (view item.now)) }
+    requires admitted { (next : Mode) × (follows machine.old.mode (view item.now) ≡ Some next) }
     requires empty { recorder.old.events ≡ [] }
     ensures carried { IfOk result (λ stepped. CarriedTo stepped number (at place (view item.now))
         machine.old machine.new recorder.new.events) }

@@ -1,10 +1,13 @@
-use Rattle.std.proofs.Common.{◌≡◌, ◌∙◌, ap, Err, false, subst}
+use Rattle.std.proofs.Common.{◌≡◌, ◌∙◌, ap, Err, false, is_some, subst}
 use Rattle.pcl_items.specs.Items.{at, view}
 use Rattle.page_machine.specs.Machine.{CarriesOn, item_of}
 use Rattle.sinks.specs.Recorder.{Recorded}
 use Rattle.sinks.proofs.Recording.{recorder_takes}
 use Rattle.comparison.proofs.Carried.{tells_finding, tells_item}
 use Rattle.comparison.proofs.stepping.carry_out.Goals as goal
+
+pub step-requires : goal.step-requires
+step-requires g c = λ _. ap is_some c.requires.admitted.1
 
 pub returns-in-Ok-clause-carried : goal.returns-in-Ok-clause-carried
 returns-in-Ok-clause-carried g c =
