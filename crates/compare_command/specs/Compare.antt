@@ -39,7 +39,7 @@ use Rattle.compare_command.specs.Objects.{difference_object, same_object}
 -- ---- what is told
 
 -- the names of both jobs and of the printers, and the form
-pub record Telling : Type 0 where
+pub record HowTold : Type 0 where
   pub old_name : List ℕ
   pub new_name : List ℕ
   pub names : List (List ℕ)
@@ -72,7 +72,7 @@ difference_text Json old new name difference = difference_object old new name di
 difference_text Html old new name difference = difference_line name difference
 
 -- what is told of what was found on the printer of a number
-abbrev pub found_text : Telling → ℕ → Comparison → List ℕ
+abbrev pub found_text : HowTold → ℕ → Comparison → List ℕ
 found_text telling number (Same counts) = same_text telling.form telling.old_name telling.new_name counts
 found_text telling number (Differs difference) =
     difference_text telling.form telling.old_name telling.new_name (name_of telling.names number) difference
@@ -176,7 +176,7 @@ pub record AreOfTexts (known : List (Option (List ℕ))) (given given' : List (L
   pub read : DescribeFleet (map (λ text. Some text) texts) fleet
   pub names_are : names ≡ map printer_name texts
 
-abbrev pub telling_of : Asked → List (List ℕ) → Telling
+abbrev pub telling_of : Asked → List (List ℕ) → HowTold
 telling_of asked names =
     record { old_name = asked.old_name; new_name = asked.new_name; names = names; form = asked.form }
 

@@ -30,9 +30,9 @@ pub(crate) struct Telling<'t> {
 
 impl<'t> Model for Telling<'t> {
     ghost use Rattle.std.specs.Prelude.{map};
-    ghost use Rattle.compare_command.specs.Compare.{Telling as Told};
+    ghost use Rattle.compare_command.specs.Compare.{HowTold};
 
-    ghost Value = { Told };
+    ghost Value = { HowTold };
 
     ghost view = { λ telling. record {
       old_name = telling.old_name.now;

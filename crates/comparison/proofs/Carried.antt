@@ -1,12 +1,11 @@
 -- What an item does on a machine that knows its panel, and what is still to come of the job behind it.
-use Rattle.std.proofs.Common.{◌≡◌, ℕ, false, unwrap_or, List, [], ◌∷◌, ◌++◌, Option, None, Some, refl, ap, sym, ◌∙◌, subst, append-nil}
+use Rattle.std.proofs.Common.{◌≡◌, ℕ, false, unwrap_or, List, [], ◌++◌, Option, None, Some, refl, ap, sym, ◌∙◌, subst, append-nil}
 use Rattle.pcl_items.specs.declared.item.Mode.{Mode}
 use Rattle.pcl_items.specs.Modes.{follows}
 use Rattle.pcl_items.specs.Items.{Placed}
 use Rattle.pcl_lexer.specs.Reading.{Reading, Whole, Stopped, with_item}
 use Rattle.device_profile.specs.declared.panel.Panel.{Panel}
 use Rattle.device_profile.specs.Printer.{Printer}
-use Rattle.macro_store.specs.Store.{no_macros}
 use Rattle.page_env.specs.declared.finding.Finding.{Finding}
 use Rattle.page_env.specs.Settings.{Settings, State, settings_at, state_at, start_state, user_defaults, unwatched}
 use Rattle.page_machine.specs.declared.machine.Start.TheVariants.{At}
@@ -21,7 +20,7 @@ use Rattle.sinks.specs.Recorder.{Recorded}
 use Rattle.verdict.specs.declared.failure.Failure.{Failure}
 use Rattle.verdict.specs.Failing.{found_at}
 use Rattle.comparison.specs.declared.stepping.Stepped.TheVariants.{On, AtEnd, FailsBy}
-use Rattle.comparison.specs.Comparison.{Made, made_at, all_made, failure_on, failure_or, fault_of}
+use Rattle.comparison.specs.Comparison.{made_at, all_made, failure_on, failure_or, fault_of}
 use Rattle.comparison.specs.Running.{CarriedTo, EndsTo, any_panel, rest_items}
 
 same_fault : (x : Placed) (rest : Reading) → fault_of (with_item x rest) ≡ fault_of rest

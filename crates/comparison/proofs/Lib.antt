@@ -1,4 +1,5 @@
 pub mod Carried
 pub mod Comparisons
 pub mod Sameness
+pub mod SoFar
 pub mod Steps

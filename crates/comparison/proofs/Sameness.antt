@@ -1,16 +1,15 @@
 -- Two jobs that are the same make the same events.
-use Rattle.std.proofs.Common.{◌≡◌, ℕ, Bool, true, false, List, [], ◌∷◌, ◌++◌, Option, None, Some, ap, map, refl, sym, ◌∙◌, if◌then◌else◌}
-use Rattle.std.specs.List.{Contains}
+use Rattle.std.proofs.Common.{◌≡◌, ℕ, Bool, true, false, List, [], ◌∷◌, ◌++◌, ◌&&◌, Option, None, Some, ap, map, refl, sym, ◌∙◌}
+use Rattle.std.proofs.Common.{if◌then◌else◌}
 use Rattle.std.proofs.lemmas.List.{map-append, map-id}
 use Rattle.std.proofs.lemmas.Simd.{map-map}
 use Rattle.pcl_lexer.specs.Laws.{HasOneReading}
 use Rattle.pcl_lexer.specs.Reading.{Reading, Whole, IsReading}
 use Rattle.device_profile.specs.declared.panel.Panel.{Panel}
-use Rattle.device_profile.specs.Printer.{Printer, IsAllowed}
+use Rattle.device_profile.specs.Printer.{Printer}
 use Rattle.page_machine.specs.Event.{Event}
 use Rattle.page_machine.specs.Job.{ItemRun, events_of, plain_run}
 use Rattle.preflight.specs.Same.{is_same_event}
-use Rattle.preflight.specs.Verdict.{PrintsAlike}
 use Rattle.preflight.proofs.Same.{events_decide}
 use Rattle.sinks.specs.declared.counts.Counts.{Counts}
 use Rattle.verdict.specs.declared.failure.Failure.{Failure}
@@ -19,9 +18,9 @@ use Rattle.comparison.specs.declared.difference.Comparison.TheVariants.{Same, Di
 use Rattle.comparison.specs.declared.difference.Difference.{Difference}
 use Rattle.comparison.specs.declared.difference.Spot.{Spot}
 use Rattle.comparison.specs.Comparison.{Made, made_at, all_made, at_start, behind_event, compared, comparison_from, difference_at, end_of}
-use Rattle.comparison.specs.Comparison.{failing_or, failure_on, IsComparison}
+use Rattle.comparison.specs.Comparison.{failing_or, failure_on}
 use Rattle.comparison.specs.Changes.{change_of}
-use Rattle.comparison.specs.Laws.{PrintsSame, SaysSame, SaysSameForAll}
+use Rattle.comparison.specs.Laws.{SaysSame, SaysSameForAll}
 
 abbrev event_made : Made → Event
 event_made made = made.event
@@ -42,7 +41,14 @@ all_events (item ∷ items) =
 
 pub same_event : (a b : Event) → is_same_event a b ≡ true → a ≡ b
 same_event a b h =
-    let lists : a ∷ [] ≡ b ∷ [] = (events_decide (a ∷ []) (b ∷ [])).0 (h, refl) in cc
+    let lists : a ∷ [] ≡ b ∷ [] = (events_decide (a ∷ []) (b ∷ [])).0 (ap (λ t. t && true) h) in cc
+
+and_true : (t : Bool) → t && true ≡ true → t ≡ true
+and_true true h = refl
+and_true false h = h
+
+pub event_same : (a b : Event) → a ≡ b → is_same_event a b ≡ true
+event_same a b e = and_true (is_same_event a b) ((events_decide (a ∷ []) (b ∷ [])).1 (ap (λ x. x ∷ []) e))
 
 -- a comparison by the test of the first events
 abbrev by_test : Bool → Comparison → Difference → Comparison

@@ -1,5 +1,5 @@
 -- What differs between two marks, or two ends of pages, that are not the same.
-use Rattle.std.specs.Prelude.{ℤ, Bool, false, ◌&&◌, ◌==◌, ◌-ℤ◌, if◌then◌else◌}
+use Rattle.std.specs.Prelude.{Bool, false, ◌&&◌, ◌==◌, ◌-ℤ◌, if◌then◌else◌}
 use Rattle.std.specs.Ordering.{int_eq}
 use Rattle.device_profile.specs.Faces.{is_same_request}
 use Rattle.page_env.specs.declared.mark.Area.{Area}

@@ -63,7 +63,7 @@ impl<'p, A: Allocator + Copy, P: Allocator> Follower<'p, A, P> {
 
     /// The job.
     pub(crate) fn into_job(self) -> RunningJob<'p, A, P>
-        ensures { result ≡ self.run }
+        ensures { result ≡ self.entry.run }
     {
         self.job
     }

@@ -1,5 +1,5 @@
 -- What a comparison of two jobs leaves that is made on files.
-use Rattle.std.specs.Prelude.{◌≡◌, ◌⊎◌, ◌&&◌, ◌||◌, ℕ, Bool, IsFalse, IsTrue, List, [], ◌∷◌, ◌++◌, codes, flat_map, map}
+use Rattle.std.specs.Prelude.{◌≡◌, ◌⊎◌, ◌&&◌, ◌||◌, ℕ, Bool, IsFalse, List, [], ◌∷◌, ◌++◌, codes, flat_map, map}
 use Rattle.std.specs.Prelude.{None, false, length, nat_lt}
 use Rattle.requests.specs.declared.compare_words.CompareWords.{CompareWords}
 use Rattle.requests.specs.declared.status.Status.{Status}

@@ -1,6 +1,6 @@
 //! A comparison of two jobs by request, on files.
 
-ghost use Rattle.std.specs.Prelude.{◌≡◌, ◌≢◌, [], ◌∷◌, ◌++◌, Contains, IfNone, IfSome, IsFalse};
+ghost use Rattle.std.specs.Prelude.{◌≢◌, [], ◌∷◌, ◌++◌, Contains, IfNone, IfSome, IsFalse};
 ghost use Rattle.compare_command.specs.Compare.{asked_for};
 ghost use Rattle.many_requests.specs.Comparisons.{LeavesComparison, LeavesOnFiles};
 ghost use Rattle.many_requests.specs.Comparisons.{reads_input_twice};

@@ -1,4 +1,4 @@
-use Rattle.std.proofs.Common.{◌≡◌, ◌++◌, ℕ, List, IsFalse, take}
+use Rattle.std.proofs.Common.{◌≡◌, ◌++◌, List, IsFalse, take}
 use Rattle.device_profile.specs.declared.panel.Panel.{Panel}
 use Rattle.device_profile.specs.Printer.{Printer}
 use Rattle.streams.specs.Source.{SourceState}

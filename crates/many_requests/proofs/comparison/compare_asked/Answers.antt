@@ -1,4 +1,4 @@
-use Rattle.std.proofs.Common.{◌≤◌, ◌∙◌, ◌++◌, List, ℕ, ap, inl, inr, length, map, refl, string_bytes, subst}
+use Rattle.std.proofs.Common.{◌≤◌, ◌∙◌, ◌++◌, List, ℕ, ap, inl, length, map, string_bytes, subst}
 use Rattle.named_inputs.specs.Texts.{text_named}
 use Rattle.many_requests.proofs.Asking.{some_printer}
 use Rattle.many_requests.proofs.Fleets.{fleets_count, fleets_told}
