@@ -129,7 +129,7 @@ fn status_of(ending: Ending) -> Status
 
 /// Tells standard error why there is no fleet: of the first profile that is refused, or of the one
 /// of this word, which could not be read, with what the system says of that.
-fn tell_refusal<E: Outlet, A: Allocator + Copy>(
+pub fn tell_refusal<E: Outlet, A: Allocator + Copy>(
     alloc: A,
     asked: &ManyJobs<'_, '_>,
     word: &str,
@@ -266,7 +266,7 @@ fn push_unread<A: Allocator + Copy>(
 }
 
 /// The word of this number, from 1.
-fn word_of<'w>(words: &[&'w str], number: u64) -> &'w str
+pub fn word_of<'w>(words: &[&'w str], number: u64) -> &'w str
     ensures { result.now ≡ get_or (map (λ word. word.now) words.now) (number - 1) [] }
 {
     match words.get(number.saturating_sub(1) as usize) {
