@@ -8,7 +8,7 @@ use Rattle.streams.specs.Ended.{JobRead, job_read}
 use Rattle.streams.specs.Outlet.{OutletState, Adds, AddsFront}
 use Rattle.streams.specs.Pieces.{ByReads}
 use Rattle.streams.specs.Source.{SourceState}
-use Rattle.preflight.specs.declared.culprit.Judgement.{Judgement}
+use Rattle.preflight.specs.declared.failing_item.Judgement.{Judgement}
 use Rattle.requests.specs.declared.many_words.Form.{Form}
 use Rattle.requests.specs.declared.many_words.Form.TheVariants.{Line, Words, Json, Html}
 use Rattle.requests.specs.declared.status.Status.{Status}
@@ -46,7 +46,7 @@ pub record HowTold : Type 0 where
   pub form : Form
 
 abbrev pub judged : Failure → Judgement
-judged failure = record { verdict = failing failure; culprit = None; page = None; cursor = None; font = None }
+judged failure = record { verdict = failing failure; failing_item = None; page = None; cursor = None; font = None }
 
 -- the job of this name fails so
 abbrev pub failed : List (List ℕ) → List ℕ → Failure → Reported

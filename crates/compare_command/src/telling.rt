@@ -165,7 +165,7 @@ fn judged(failure: Failure) -> Judgement
 {
     Judgement {
         verdict: failure.verdict(),
-        culprit: None,
+        failing_item: None,
         page: None,
         cursor: None,
         font: None,
