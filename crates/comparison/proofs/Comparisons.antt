@@ -16,7 +16,7 @@ use Rattle.comparison.specs.declared.difference.Comparison.{Comparison}
 use Rattle.comparison.specs.declared.difference.Comparison.TheVariants.{OldFails, NewFails}
 use Rattle.comparison.specs.Comparison.{Made, all_made, at_start, compared, end_of, failing_or, failure_on}
 use Rattle.comparison.specs.Comparison.{IsComparison}
-use Rattle.comparison.specs.Running.{Gave, IsAtEnd, IsFailing}
+use Rattle.comparison.specs.Running.{Gave, HasEnded, IsFailing}
 
 -- ---- what the reads gave
 
@@ -62,7 +62,7 @@ module _ (number : ℕ) (printer : Printer) (panel : Panel) where
       )
 
   -- OLD does not fail, and NEW does
-  pub new_failing : (old_bytes : List ℕ) (made : List Made) (place : ℕ) → IsAtEnd printer panel number old_bytes made place →
+  pub new_failing : (old_bytes : List ℕ) (made : List Made) (place : ℕ) → HasEnded printer panel number old_bytes made place →
       (ended : Bool) (bytes : List ℕ) (failure : Failure) → IsFailing printer panel number ended bytes failure →
       (after : List ℕ) → MayBe ended bytes after → IsComparison number printer panel old_bytes after (NewFails failure)
   new_failing old_bytes made place old ended bytes failure fails after may =
@@ -78,7 +78,7 @@ module _ (number : ℕ) (printer : Printer) (panel : Panel) where
 
   -- neither fails
   pub both_end : (old_bytes new_bytes : List ℕ) (old_made new_made : List Made) (old_place new_place : ℕ) (found : Comparison) →
-      IsAtEnd printer panel number old_bytes old_made old_place → IsAtEnd printer panel number new_bytes new_made new_place →
+      HasEnded printer panel number old_bytes old_made old_place → HasEnded printer panel number new_bytes new_made new_place →
       compared at_start old_place new_place old_made new_made ≡ found → IsComparison number printer panel old_bytes new_bytes found
   both_end old_bytes new_bytes old_made new_made old_place new_place found old new is = (
     old.reading,

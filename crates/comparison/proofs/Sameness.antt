@@ -1,13 +1,16 @@
 -- Two jobs that are the same make the same events.
 use Rattle.std.proofs.Common.{◌≡◌, ℕ, Bool, true, false, List, [], ◌∷◌, ◌++◌, ◌&&◌, Option, None, Some, ap, map, refl, sym, ◌∙◌}
 use Rattle.std.proofs.Common.{if◌then◌else◌}
+use Rattle.std.specs.Bool.{Decides}
+use Rattle.std.proofs.lemmas.Bool.Decides.{Decides-like}
 use Rattle.std.proofs.lemmas.List.{map-append, map-id}
 use Rattle.std.proofs.lemmas.Simd.{map-map}
 use Rattle.pcl_lexer.specs.Laws.{HasOneReading}
 use Rattle.pcl_lexer.specs.Reading.{Reading, Whole, IsReading}
 use Rattle.device_profile.specs.declared.panel.Panel.{Panel}
 use Rattle.device_profile.specs.Printer.{Printer}
-use Rattle.page_machine.specs.Event.{Event}
+use Rattle.page_env.specs.Mark.{Shape}
+use Rattle.page_machine.specs.Event.{Event, Marked}
 use Rattle.page_machine.specs.Job.{ItemRun, events_of, plain_run}
 use Rattle.preflight.specs.Same.{is_same_event}
 use Rattle.preflight.proofs.Same.{events_decide}
@@ -19,7 +22,7 @@ use Rattle.comparison.specs.declared.difference.Difference.{Difference}
 use Rattle.comparison.specs.declared.difference.Spot.{Spot}
 use Rattle.comparison.specs.Comparison.{Made, made_at, all_made, at_start, behind_event, compared, comparison_from, difference_at, end_of}
 use Rattle.comparison.specs.Comparison.{failing_or, failure_on}
-use Rattle.comparison.specs.Changes.{change_of}
+use Rattle.comparison.specs.Changes.{at_origin, change_of, is_moved}
 use Rattle.comparison.specs.Laws.{SaysSame, SaysSameForAll}
 
 abbrev event_made : Made → Event
@@ -49,6 +52,14 @@ and_true false h = h
 
 pub event_same : (a b : Event) → a ≡ b → is_same_event a b ≡ true
 event_same a b e = and_true (is_same_event a b) ((events_decide (a ∷ []) (b ∷ [])).1 (ap (λ x. x ∷ []) e))
+
+pub event_decides : (a b : Event) → Decides (is_same_event a b) (a ≡ b)
+event_decides a b = (same_event a b, event_same a b)
+
+-- two marks are the same at the origin just where one is moved to the other
+pub moved_decides : (a b : Shape) → Decides (is_moved a b) (at_origin a ≡ at_origin b)
+moved_decides a b =
+    Decides-like _ (λ e. cc) (λ e. ap Marked e) (event_decides (Marked (at_origin a)) (Marked (at_origin b)))
 
 -- a comparison by the test of the first events
 abbrev by_test : Bool → Comparison → Difference → Comparison

@@ -1,12 +1,18 @@
 -- How a step leads on, behind what a job made before it.
-use Rattle.std.proofs.Common.{◌≡◌, ℕ, Bool, true, List, [], ◌∷◌, ◌++◌, length}
-use Rattle.std.proofs.Common.{refl, ap, sym, ◌∙◌, subst, append-nil, append_assoc}
+use Rattle.std.proofs.Common.{◌≡◌, ◌<◌, ◌≤◌, ℕ, Bool, true, false, List, [], ◌∷◌, ◌++◌, length, Some, Result, Ok, Err, unwrap_or}
+use Rattle.std.proofs.Common.{refl, ap, sym, ◌∙◌, subst, append-nil, append_assoc, arith}
 use Rattle.pcl_items.specs.declared.fault.LexFault.{LexFault}
-use Rattle.pcl_items.specs.Items.{Placed}
+use Rattle.pcl_items.specs.declared.item.Item.{Item}
+use Rattle.pcl_items.specs.Items.{Placed, at, view}
+use Rattle.pcl_items.specs.Modes.{follows}
+use Rattle.pcl_lexer.specs.declared.lexer.lexed.Lexed.{Lexed}
+use Rattle.pcl_lexer.specs.declared.lexer.lexed.Lexed.TheVariants as answers
 use Rattle.pcl_lexer.specs.Laws.{HasOneReading}
-use Rattle.pcl_lexer.specs.Lexing.Meaning.{HasRead, MayBe, Decides, Settles}
+use Rattle.pcl_lexer.specs.Lexing.Meaning.{Advances, Allows, HasRead, IsNext, KeepsMode, MayBe, Decides, Settles, Tells, given}
 use Rattle.pcl_lexer.specs.Lexing.State.{LexerState}
-use Rattle.pcl_lexer.specs.Reading.{Reading, Whole, Stopped, IsReading, items_of, reading_of, with_item}
+use Rattle.pcl_lexer.specs.Modes.{mode_of}
+use Rattle.pcl_lexer.specs.Reading.{Reading, Whole, Stopped, IsReading, items_of, left, reading_of, with_item}
+use Rattle.pcl_lexer.proofs.Lexing.Steps.{item_admitted}
 use Rattle.pcl_lexer.proofs.Reading.Readings.{one_reading}
 use Rattle.device_profile.specs.declared.panel.Panel.{Panel}
 use Rattle.device_profile.specs.Printer.{Printer}
@@ -17,9 +23,10 @@ use Rattle.page_machine.specs.Machine.{IsNew}
 use Rattle.page_machine.specs.MachineState.{MachineState}
 use Rattle.verdict.specs.declared.failure.Failure.{Failure}
 use Rattle.verdict.specs.Failing.{fault_at}
-use Rattle.comparison.specs.declared.stepping.Stepped.TheVariants.{On, AtEnd, FailsBy}
+use Rattle.comparison.specs.declared.stepping.Stepped.{Stepped}
+use Rattle.comparison.specs.declared.stepping.Stepped.TheVariants.{On, More, AtEnd, FailsBy, Refused}
 use Rattle.comparison.specs.Comparison.{Made, made_at, all_made, failure_on}
-use Rattle.comparison.specs.Running.{CarriedTo, EndsTo, IsAtEnd, IsFailing, IsUnderWay, behind, rest_items}
+use Rattle.comparison.specs.Running.{CarriedTo, EndsTo, HasEnded, IsFailing, IsUnderWay, LeavesOff, StepsTo, behind, rest_items}
 use Rattle.comparison.proofs.Carried.{rest_at_start}
 
 -- ---- readings by their first items
@@ -102,7 +109,7 @@ module _ (printer : Printer) (panel : Panel) (number : ℕ) (bytes : List ℕ) (
 
   -- the end was carried out
   pub end_on : (events : List Event) → IsReading bytes (Whole h.items (length bytes)) → EndsTo AtEnd number (length bytes) machine events →
-      IsAtEnd printer panel number bytes (made ++ made_at (length bytes) events) (length bytes)
+      HasEnded printer panel number bytes (made ++ made_at (length bytes) events) (length bytes)
   end_on events is ends = record {
     reading = behind h.items (Whole [] (length bytes));
     spelled = subst (IsReading bytes) whole_is is;
@@ -133,3 +140,98 @@ module _ (printer : Printer) (panel : Panel) (number : ℕ) (bytes : List ℕ) (
         subst (IsReading job) stopped (settled job may),
         h.failing (Stopped [] fault.place fault.cause),
       )
+
+  -- ---- by an answer of the lexer
+
+  module _ (answer : Result Lexed LexFault) (lexer' : LexerState) (next : IsNext lexer answer lexer') where
+    module _ (place : ℕ) (item : Item) (is : answer ≡ Ok (answers.Item place item)) where
+      pub item_steps : (machine' : MachineState) (events : List Event) (stepped : Stepped) →
+          CarriedTo stepped number (at place (view item)) machine machine' events →
+          StepsTo stepped printer panel number bytes made lexer' machine' events
+      item_steps machine' events (On there) carried =
+          let x : Placed = at place (view item) in
+          let reads : HasRead lexer' bytes (h.items ++ x ∷ []) =
+          subst (λ a. HasRead lexer' bytes (h.items ++ given a)) is (next.reads bytes h.items h.reads) in
+          subst (λ p. IsUnderWay printer panel number bytes (made ++ made_at p events) lexer' machine') (sym carried.0)
+          (item_on x lexer' machine' events reads (refl, carried.1, carried.2, carried.3, carried.4))
+      item_steps machine' events (FailsBy failure) carried =
+          let x : Placed = at place (view item) in
+          let decided : Decides lexer.ended bytes (h.items ++ x ∷ []) =
+          subst (λ a. Tells lexer.ended bytes h.items a) is (next.tells bytes h.items h.reads) in
+          item_fails x machine' events failure lexer'.ended
+          (subst (λ e. Decides e bytes (h.items ++ x ∷ [])) (sym next.ended) decided) carried
+      item_steps machine' events More carried = absurd carried
+      item_steps machine' events AtEnd carried = absurd carried
+      item_steps machine' events Refused carried = tt
+
+    pub wait_steps : answer ≡ Ok answers.NeedMore → (machine' : MachineState) (events : List Event) → machine' ≡ machine →
+        StepsTo More printer panel number bytes made lexer' machine' events
+    wait_steps is machine' events same =
+        subst (λ m. IsUnderWay printer panel number bytes made lexer' m) (sym same)
+        (still_under_way bytes lexer'
+        (subst (HasRead lexer' bytes) (ap (λ a. h.items ++ given a) is ∙ append-nil h.items) (next.reads bytes h.items h.reads)))
+
+    pub end_steps : answer ≡ Ok answers.End → (total : ℕ) → total ≡ length bytes → (machine' : MachineState) (events : List Event)
+        (stepped : Stepped) → EndsTo stepped number total machine events →
+        StepsTo stepped printer panel number bytes made lexer' machine' events
+    end_steps is total total_is machine' events AtEnd ends =
+        let tells = subst (λ a. Tells lexer.ended bytes h.items a) is (next.tells bytes h.items h.reads) in
+        end_on events tells.1 (subst (λ n. EndsTo AtEnd number n machine events) total_is ends)
+    end_steps is total total_is machine' events (FailsBy failure) ends =
+        let tells = subst (λ a. Tells lexer.ended bytes h.items a) is (next.tells bytes h.items h.reads) in
+        end_fails failure events lexer'.ended (next.ended ∙ tells.0) tells.1
+        (subst (λ n. EndsTo (FailsBy failure) number n machine events) total_is ends)
+    end_steps is total total_is machine' events (On place) ends = absurd ends
+    end_steps is total total_is machine' events More ends = absurd ends
+    end_steps is total total_is machine' events Refused ends = tt
+
+    pub fault_steps : (fault : LexFault) → answer ≡ Err fault → (machine' : MachineState) (events : List Event) →
+        StepsTo (FailsBy (fault_at fault.place fault.cause)) printer panel number bytes made lexer' machine' events
+    fault_steps fault is machine' events =
+        let settled : Settles lexer.ended bytes (Stopped h.items fault.place fault.cause) =
+        subst (λ a. Tells lexer.ended bytes h.items a) is (next.tells bytes h.items h.reads) in
+        fault_fails fault lexer'.ended
+        (subst (λ e. Settles e bytes (Stopped h.items fault.place fault.cause)) (sym next.ended) settled)
+
+-- ---- where a step leaves off
+
+at_most : (l m : ℕ) → l < m → l ≤ m
+at_most l m less = omega arith
+
+module _ (lexer lexer' : LexerState) (answer : Result Lexed LexFault) (next : IsNext lexer answer lexer') (machine : MachineState) where
+  pub item_leaves : (place : ℕ) (item : Item) → answer ≡ Ok (answers.Item place item) → machine.mode ≡ mode_of lexer.context →
+      (number : ℕ) (machine' : MachineState) (events : List Event) (stepped : Stepped) →
+      CarriedTo stepped number (at place (view item)) machine machine' events → LeavesOff stepped lexer lexer' machine' events
+  item_leaves place item is mode number machine' events (On there) carried =
+      let behind_is : Some machine'.mode ≡ Some (mode_of lexer'.context) =
+      sym carried.2 ∙ (ap (λ m. follows m (view item)) mode ∙ item_admitted lexer lexer' answer next place item is) in (
+        carried.1,
+        ap (λ o. unwrap_or o machine'.mode) behind_is,
+        subst (λ a. Advances lexer a lexer') is next.advances,
+      )
+  item_leaves place item is mode number machine' events (FailsBy failure) carried =
+      at_most (left lexer'.context lexer'.rest) (left lexer.context lexer.rest) (subst (λ a. Advances lexer a lexer') is next.advances)
+  item_leaves place item is mode number machine' events More carried = absurd carried
+  item_leaves place item is mode number machine' events AtEnd carried = absurd carried
+  item_leaves place item is mode number machine' events Refused carried = tt
+
+  pub wait_leaves : answer ≡ Ok answers.NeedMore → machine.stopped ≡ false → machine.mode ≡ mode_of lexer.context → (events : List Event) →
+      events ≡ [] → LeavesOff More lexer lexer' machine events
+  wait_leaves is running mode events none =
+      let allows = subst (λ a. Allows a lexer') is next.allows in (
+        running,
+        mode ∙ sym (subst (λ a. KeepsMode lexer a lexer') is next.admits),
+        allows.0,
+        allows.1,
+        none,
+        subst (λ a. Advances lexer a lexer') is next.advances,
+      )
+
+  pub end_leaves : answer ≡ Ok answers.End → (number total : ℕ) (machine' : MachineState) (events : List Event) (stepped : Stepped) →
+      EndsTo stepped number total machine events → LeavesOff stepped lexer lexer' machine' events
+  end_leaves is number total machine' events AtEnd ends =
+      let allows = subst (λ a. Allows a lexer') is next.allows in (allows.0, subst (λ a. Advances lexer a lexer') is next.advances)
+  end_leaves is number total machine' events (FailsBy failure) ends = subst (λ a. Advances lexer a lexer') is next.advances
+  end_leaves is number total machine' events (On place) ends = absurd ends
+  end_leaves is number total machine' events More ends = absurd ends
+  end_leaves is number total machine' events Refused ends = tt

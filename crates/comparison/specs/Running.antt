@@ -1,7 +1,7 @@
 -- What a job has come to that is carried out item by item, and what is still to come of it.
-use Rattle.std.specs.Prelude.{◌≡◌, ℕ, ◌+◌, ◌-◌, ◌*◌, ◌<◌, ◌≤◌, ◌^◌, List, [], ◌∷◌, ◌++◌, length, Bool, true, false}
-use Rattle.std.specs.Prelude.{IfSome, Option, None, Some, if◌then◌else◌, ⊤}
-use Rattle.std.specs.Io.KnownBytes.{Consumes}
+use Rattle.std.specs.Prelude.{◌≡◌, ℕ, ◌+◌, ◌-◌, ◌*◌, ◌<◌, ◌≤◌, ◌^◌, List, [], ◌∷◌, ◌++◌, length, take, Bool, true}
+use Rattle.std.specs.Prelude.{false, IfSome, Option, None, Some, if◌then◌else◌, ⊤}
+use Rattle.std.specs.Io.KnownBytes.{Consumes, IsAtEnd}
 use Rattle.pcl_items.specs.Items.{Placed}
 use Rattle.pcl_items.specs.Modes.{follows}
 use Rattle.pcl_lexer.specs.Lexing.Meaning.{HasRead, MayBe}
@@ -20,9 +20,9 @@ use Rattle.streams.specs.Pieces.{Spell}
 use Rattle.streams.specs.Source.{SourceState}
 use Rattle.verdict.specs.declared.failure.Failure.{Failure}
 use Rattle.comparison.specs.declared.running_job.Progress.{Progress}
-use Rattle.comparison.specs.declared.running_job.Progress.TheVariants.{Open, Ended, Fails}
+use Rattle.comparison.specs.declared.running_job.Progress.TheVariants.{Open, Ended, Fails, OutOfMemory}
 use Rattle.comparison.specs.declared.stepping.Stepped.{Stepped}
-use Rattle.comparison.specs.declared.stepping.Stepped.TheVariants.{On, More, AtEnd, FailsBy}
+use Rattle.comparison.specs.declared.stepping.Stepped.TheVariants.{On, More, AtEnd, FailsBy, Refused}
 use Rattle.comparison.specs.Comparison.{Made, made_at, all_made, end_of, failure_on}
 
 -- ---- where it stands
@@ -47,17 +47,57 @@ abbrev pub is_open : Progress → Bool
 is_open Open = true
 is_open Ended = false
 is_open (Fails failure) = false
+is_open OutOfMemory = false
 
 -- why the job fails, if it does
 abbrev pub failure_of : Progress → Option Failure
 failure_of Open = None
 failure_of Ended = None
 failure_of (Fails failure) = Some failure
+failure_of OutOfMemory = None
 
--- what is left to do: a read gives 4096 bytes at most, and each step takes some, or is the last one
+-- where the last item stands behind a step, which stood at a place before it
+abbrev pub place_after : Stepped → (last total : ℕ) → ℕ
+place_after (On place) last total = place
+place_after More last total = last
+place_after AtEnd last total = total
+place_after (FailsBy failure) last total = last
+place_after Refused last total = last
+
+-- whether the job is over behind a step
+abbrev pub progress_after : Stepped → Progress
+progress_after (On place) = Open
+progress_after More = Open
+progress_after AtEnd = Ended
+progress_after (FailsBy failure) = Fails failure
+progress_after Refused = OutOfMemory
+
+-- ---- what is left to do
+
+abbrev pub last_step : Progress → ℕ
+last_step Open = 1
+last_step Ended = 0
+last_step (Fails failure) = 0
+last_step OutOfMemory = 0
+
+-- a read gives 4096 bytes at most, and each step takes some, or is the last one
 abbrev pub work : RunState → ℕ
-work run =
-    (if is_open run.progress then 1 else 0) + left run.lexer.context run.lexer.rest + 8194 * (2 ^ 40 - run.reads)
+work run = last_step run.progress + left run.lexer.context run.lexer.rest + 8194 * (2 ^ 40 - run.reads)
+
+-- a step leaves less of it, or waits for more bytes
+abbrev pub TakesWork : Stepped → RunState → RunState → Type 0
+TakesWork (On place) old new = work new < work old
+TakesWork More old new = work new ≤ work old
+TakesWork AtEnd old new = work new < work old
+TakesWork (FailsBy failure) old new = work new < work old
+TakesWork Refused old new = ⊤
+
+-- it has made nothing more, and a piece may be fed, or the end of the job told
+pub record IsWaiting (run : RunState) : Type 0 where
+  pub running : is_open run.progress ≡ true
+  pub wants_more : WantsMore run.lexer
+  pub unended : run.lexer.ended ≡ false
+  pub none : run.events ≡ []
 
 -- ---- what the reads gave
 
@@ -100,7 +140,7 @@ pub record IsUnderWay (printer : Printer) (panel : Panel) (number : ℕ) (bytes 
       ≡ failure_on number (rest_items machine rest) rest
 
 -- the bytes are the whole job: it made this, does not fail, and ends at this place
-pub record IsAtEnd (printer : Printer) (panel : Panel) (number : ℕ) (bytes : List ℕ) (made : List Made)
+pub record HasEnded (printer : Printer) (panel : Panel) (number : ℕ) (bytes : List ℕ) (made : List Made)
     (place : ℕ) : Type 0 where
   pub reading : Reading
   pub spelled : IsReading bytes reading
@@ -116,7 +156,7 @@ IsFailing printer panel number ended bytes failure =
     × (failure_on number (plain_run printer panel reading).items reading ≡ Some failure)
 
 -- An item was carried out: whatever follows it, the job makes this first, and what is wrong is behind it; or it has a
--- finding, by which the job fails.
+-- finding, by which the job fails. Where memory was refused nothing is said.
 abbrev pub CarriedTo : Stepped → ℕ → Placed → MachineState → MachineState → List Event → Type 0
 CarriedTo (On place) number x old new events =
     (place ≡ x.place) × (new.stopped ≡ false) × (follows old.mode x.item ≡ Some new.mode)
@@ -129,6 +169,7 @@ CarriedTo (FailsBy failure) number x old new events =
     (rest : Reading) → failure_on number (rest_items old (with_item x rest)) (with_item x rest) ≡ Some failure
 CarriedTo More number x old new events = ⊥
 CarriedTo AtEnd number x old new events = ⊥
+CarriedTo Refused number x old new events = ⊤
 
 -- so of the end of the bytes, of which there are so many
 abbrev pub EndsTo : Stepped → ℕ → ℕ → MachineState → List Event → Type 0
@@ -139,6 +180,7 @@ EndsTo (FailsBy failure) number total machine events =
     failure_on number (rest_items machine (Whole [] total)) (Whole [] total) ≡ Some failure
 EndsTo (On place) number total machine events = ⊥
 EndsTo More number total machine events = ⊥
+EndsTo Refused number total machine events = ⊤
 
 -- what one step came to, behind what was made of these bytes before
 abbrev pub StepsTo : Stepped → Printer → Panel → ℕ → List ℕ → List Made → LexerState → MachineState → List Event →
@@ -146,30 +188,46 @@ abbrev pub StepsTo : Stepped → Printer → Panel → ℕ → List ℕ → List
 StepsTo (On place) printer panel number bytes made lexer machine events =
     IsUnderWay printer panel number bytes (made ++ made_at place events) lexer machine
 StepsTo More printer panel number bytes made lexer machine events =
-    IsUnderWay printer panel number bytes made lexer machine × (events ≡ [])
+    IsUnderWay printer panel number bytes made lexer machine
 StepsTo AtEnd printer panel number bytes made lexer machine events =
-    IsAtEnd printer panel number bytes (made ++ made_at (length bytes) events) (length bytes)
+    HasEnded printer panel number bytes (made ++ made_at (length bytes) events) (length bytes)
 StepsTo (FailsBy failure) printer panel number bytes made lexer machine events =
     IsFailing printer panel number lexer.ended bytes failure
+StepsTo Refused printer panel number bytes made lexer machine events = ⊤
 
--- where a step leaves lexer and machine: an item leaves less to be read; where more is wanted, a piece may be fed, or
--- the end of the job told
-abbrev pub LeavesOff : Stepped → LexerState → LexerState → MachineState → Type 0
-LeavesOff (On place) old new machine =
+-- so of every job of which so many bytes were fed
+abbrev pub ComesBy : (number total : ℕ) → LexerState → MachineState → Stepped → LexerState → MachineState →
+    List Event → Type 0
+ComesBy number total lexer machine stepped lexer' machine' events =
+    (printer : Printer) (panel : Panel) (bytes : List ℕ) (made : List Made) → total ≡ length bytes →
+    IsUnderWay printer panel number bytes made lexer machine →
+    StepsTo stepped printer panel number bytes made lexer' machine' events
+
+-- where a step leaves lexer and machine: an item leaves less to be read; where more is wanted nothing was made, and a
+-- piece may be fed, or the end of the job told
+abbrev pub LeavesOff : Stepped → LexerState → LexerState → MachineState → List Event → Type 0
+LeavesOff (On place) old new machine events =
     (machine.stopped ≡ false) × (machine.mode ≡ mode_of new.context)
     × (left new.context new.rest < left old.context old.rest)
-LeavesOff More old new machine =
+LeavesOff More old new machine events =
     (machine.stopped ≡ false) × (machine.mode ≡ mode_of new.context) × (new.ended ≡ false) × WantsMore new
-    × (left new.context new.rest ≤ left old.context old.rest)
-LeavesOff AtEnd old new machine = (new.ended ≡ true) × (left new.context new.rest ≤ left old.context old.rest)
-LeavesOff (FailsBy failure) old new machine = left new.context new.rest ≤ left old.context old.rest
+    × (events ≡ []) × (left new.context new.rest ≤ left old.context old.rest)
+LeavesOff AtEnd old new machine events =
+    (new.ended ≡ true) × (left new.context new.rest ≤ left old.context old.rest)
+LeavesOff (FailsBy failure) old new machine events = left new.context new.rest ≤ left old.context old.rest
+LeavesOff Refused old new machine events = ⊤
 
+-- ---- all that was carried out
+
+-- of a job of which memory was refused nothing is known
 abbrev pub StandsBy : Progress → Printer → Panel → List ℕ → List Made → RunState → Type 0
 StandsBy Open printer panel bytes made run =
     IsUnderWay printer panel run.number bytes made run.lexer run.machine
-StandsBy Ended printer panel bytes made run = IsAtEnd printer panel run.number bytes made run.place
+StandsBy Ended printer panel bytes made run =
+    (run.lexer.ended ≡ true) × HasEnded printer panel run.number bytes made run.place
 StandsBy (Fails failure) printer panel bytes made run =
     IsFailing printer panel run.number run.lexer.ended bytes failure
+StandsBy OutOfMemory printer panel bytes made run = ⊥
 
 -- From the one state of its source to the other the job was carried out so far:
 -- it made this, the events of its last item at the end of that.
@@ -179,6 +237,46 @@ pub record HasRun (printer : Printer) (panel : Panel) (first now : SourceState) 
   pub gave : Gave first now run.lexer.ended bytes
   pub total_is : run.total ≡ length bytes
   pub stands : StandsBy run.progress printer panel bytes made run
+
+-- a step made this behind what was made before
+abbrev pub GoesBy : Stepped → Printer → Panel → (first now : SourceState) → List Made → RunState → Type 0
+GoesBy (On place) printer panel first now made run = HasRun printer panel first now (made ++ last_made run) run
+GoesBy More printer panel first now made run = HasRun printer panel first now made run
+GoesBy AtEnd printer panel first now made run = HasRun printer panel first now (made ++ last_made run) run
+GoesBy (FailsBy failure) printer panel first now made run =
+    HasRun printer panel first now (made ++ last_made run) run
+GoesBy Refused printer panel first now made run = ⊤
+
+-- of a job that was carried out so far, another piece was fed, or the end told
+abbrev pub TakesPiece : List ℕ → RunState → RunState → Type 0
+TakesPiece piece old new =
+    (printer : Printer) (panel : Panel) (first mid now : SourceState) (made : List Made) →
+    HasRun printer panel first mid made old → now.given ≡ mid.given ++ piece ∷ [] →
+    Consumes mid.remaining now.remaining piece → HasRun printer panel first now made new
+
+abbrev pub TakesEnd : RunState → RunState → Type 0
+TakesEnd old new =
+    (printer : Printer) (panel : Panel) (first mid now : SourceState) (made : List Made) (buf : List ℕ) (n : ℕ) →
+    n ≡ 0 → HasRun printer panel first mid made old → now.given ≡ mid.given ++ take n buf ∷ [] →
+    Consumes mid.remaining now.remaining (take n buf) → IsAtEnd now.remaining →
+    HasRun printer panel first now made new
+
+-- a job went on while its source went from the one state to the other: by its last item
+abbrev pub RunsOn : (now now' : SourceState) → (old new : RunState) → Type 0
+RunsOn now now' old new =
+    (printer : Printer) (panel : Panel) (first : SourceState) (made : List Made) →
+    HasRun printer panel first now made old → HasRun printer panel first now' (made ++ last_made new) new
+
+-- of a job that is over no more is made, and its end is where it stands
+abbrev pub MayMake : RunState → List Made → ℕ → Type 0
+MayMake run more end = is_open run.progress ≡ false → (more ≡ []) × (end ≡ run.place)
+
+-- or by all that it makes
+abbrev pub RunsOut : (now now' : SourceState) → (old new : RunState) → Type 0
+RunsOut now now' old new =
+    (printer : Printer) (panel : Panel) (first : SourceState) (made : List Made) →
+    HasRun printer panel first now made old →
+    (more : List Made) × HasRun printer panel first now' (made ++ more) new × MayMake old more new.place
 
 -- why a job is not carried out further
 abbrev pub IsErrorOfJob : Error → Type 0

@@ -1,20 +1,21 @@
 //! What differs between two events that are not the same.
 
-ghost use Rattle.std.specs.Prelude.{◌≡◌, ◌-ℤ◌, if◌then◌else◌};
+ghost use Rattle.std.specs.Prelude.{◌≡◌, ◌↔◌, ◌-ℤ◌, IsTrue, if◌then◌else◌};
 ghost use Rattle.comparison.specs.Changes.{
+  area_at_origin,
+  at_origin,
+  box_at_origin,
   change_of,
-  is_as_large,
+  glyph_at_origin,
   is_moved,
-  is_moved_area,
-  is_moved_glyph,
-  is_moved_line,
-  is_moved_row,
+  line_at_origin,
+  row_at_origin,
 };
 ghost use Rattle.sinks.specs.Owned.{event_of, row_of_owned, shape_of_owned};
 
 use crate::difference::Change;
-use device_profile::is_same_request;
-use page_env::{Area, Bounds, Glyph, PenLine};
+use device_profile::{FontRequest, is_same_request};
+use page_env::{Area, Bounds, Fill, Glyph, PenLine};
 use sinks::{OwnedEvent, OwnedMark, OwnedRow};
 use std::alloc::Allocator;
 use tick_length::Length;
@@ -47,6 +48,14 @@ fn change_of_marks<A: Allocator>(one: &OwnedMark<A>, other: &OwnedMark<A>) -> Ch
 fn is_moved<A: Allocator>(one: &OwnedMark<A>, other: &OwnedMark<A>) -> bool
     ensures { result ≡ is_moved (shape_of_owned one.now) (shape_of_owned other.now) }
 {
+    is_same_at_origin(one, other)
+}
+
+/// Whether two marks are the same once both are put at the origin.
+fn is_same_at_origin<A: Allocator>(one: &OwnedMark<A>, other: &OwnedMark<A>) -> bool
+    ensures { IsTrue result ↔
+        (at_origin (shape_of_owned one.now) ≡ at_origin (shape_of_owned other.now)) }
+{
     match (one, other) {
         (OwnedMark::Rect(one), OwnedMark::Rect(other)) => is_moved_area(one, other),
         (OwnedMark::Glyph(one), OwnedMark::Glyph(other)) => is_moved_glyph(one, other),
@@ -57,45 +66,60 @@ fn is_moved<A: Allocator>(one: &OwnedMark<A>, other: &OwnedMark<A>) -> bool
 }
 
 fn is_moved_area(one: &Area, other: &Area) -> bool
-    ensures { result ≡ is_moved_area one.now other.now }
+    ensures { IsTrue result ↔ (area_at_origin one.now ≡ area_at_origin other.now) }
 {
-    one.fill == other.fill && is_as_large(&one.bounds, &other.bounds)
+    is_same_fill(one.fill, other.fill) && is_as_large(&one.bounds, &other.bounds)
 }
 
 fn is_moved_glyph(one: &Glyph, other: &Glyph) -> bool
-    ensures { result ≡ is_moved_glyph one.now other.now }
+    ensures { IsTrue result ↔ (glyph_at_origin one.now ≡ glyph_at_origin other.now) }
 {
     one.code == other.code
-        && is_same_request(&one.request, &other.request)
-        && between(one.bounds.top, one.y) == between(other.bounds.top, other.y)
+        && is_equal_request(&one.request, &other.request)
+        && is_as_far(one.bounds.top, one.y, other.bounds.top, other.y)
         && is_as_large(&one.bounds, &other.bounds)
 }
 
 fn is_moved_row<A: Allocator>(one: &OwnedRow<A>, other: &OwnedRow<A>) -> bool
-    ensures { result ≡ is_moved_row (row_of_owned one.now) (row_of_owned other.now) }
+    ensures { IsTrue result ↔
+        (row_at_origin (row_of_owned one.now) ≡ row_at_origin (row_of_owned other.now)) }
 {
     one.resolution == other.resolution && one.bytes.as_slice() == other.bytes.as_slice()
 }
 
 fn is_moved_line(one: &PenLine, other: &PenLine) -> bool
-    ensures { result ≡ is_moved_line one.now other.now }
+    ensures { IsTrue result ↔ (line_at_origin one.now ≡ line_at_origin other.now) }
 {
     one.width == other.width
-        && between(one.x0, one.x1) == between(other.x0, other.x1)
-        && between(one.y0, one.y1) == between(other.y0, other.y1)
+        && is_as_far(one.x0, one.x1, other.x0, other.x1)
+        && is_as_far(one.y0, one.y1, other.y0, other.y1)
+}
+
+/// Whether two areas are filled alike.
+fn is_same_fill(one: Fill, other: Fill) -> bool
+    ensures { IsTrue result ↔ (one ≡ other) }
+{
+    one == other
+}
+
+/// Whether two requests are the same in all seven parts.
+fn is_equal_request(one: &FontRequest, other: &FontRequest) -> bool
+    ensures { IsTrue result ↔ (one.now ≡ other.now) }
+{
+    is_same_request(one, other)
 }
 
 /// Whether two boxes have one width and one height.
 fn is_as_large(one: &Bounds, other: &Bounds) -> bool
-    ensures { result ≡ is_as_large one.now other.now }
+    ensures { IsTrue result ↔ (box_at_origin one.now ≡ box_at_origin other.now) }
 {
-    between(one.left, one.right) == between(other.left, other.right)
-        && between(one.top, one.bottom) == between(other.top, other.bottom)
+    is_as_far(one.left, one.right, other.left, other.right)
+        && is_as_far(one.top, one.bottom, other.top, other.bottom)
 }
 
-/// How far it is from one place to another, in ticks.
-fn between(from: Length, to: Length) -> i64
-    ensures { result ≡ to -ℤ from }
+/// Whether it is as far from the first place to the second as from the third to the fourth.
+fn is_as_far(from: Length, to: Length, other_from: Length, other_to: Length) -> bool
+    ensures { IsTrue result ↔ (to -ℤ from ≡ other_to -ℤ other_from) }
 {
-    to.ticks() - from.ticks()
+    to.ticks() - from.ticks() == other_to.ticks() - other_from.ticks()
 }

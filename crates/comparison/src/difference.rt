@@ -71,8 +71,8 @@ impl Spot {
         }
     }
 
-    /// Goes behind an event that both jobs made.
-    pub(crate) fn pass<A: Allocator>(&mut self, event: &OwnedEvent<A>)
+    /// Counts an event that both jobs made.
+    pub(crate) fn count<A: Allocator>(&mut self, event: &OwnedEvent<A>)
         ensures { self.new ≡ behind_event (event_of event.now) self.old }
     {
         match event {

@@ -1,13 +1,12 @@
 //! A job that follows another one, event by event.
 
-ghost use Rattle.std.specs.Prelude.{◌≡◌, ◌+◌, ◌<◌, List, [], IfErr, IsFalse, OnOk, false};
+ghost use Rattle.std.specs.Prelude.{◌≡◌, ◌+◌, ◌<◌, [], IfErr, IsFalse, OnOk, false, true};
 ghost use Rattle.std.specs.Prelude.{length, option_map};
-ghost use Rattle.device_profile.specs.Printer.{IsAllowed, Printer};
-ghost use Rattle.device_profile.specs.declared.panel.Panel.{Panel};
-ghost use Rattle.comparison.specs.Comparison.{Made};
-ghost use Rattle.comparison.specs.Comparing.{HasFollowed, IsNextDifference, next_of};
-ghost use Rattle.comparison.specs.Comparing.{further_difference, still_made};
-ghost use Rattle.comparison.specs.Running.{IsErrorOfJob, is_open};
+ghost use Rattle.device_profile.specs.Printer.{IsAllowed};
+ghost use Rattle.comparison.specs.Comparing.{FollowsOn, HasFollowed, IsNextDifference};
+ghost use Rattle.comparison.specs.Comparing.{difference_of, further_difference, lacks_next, next_of};
+ghost use Rattle.comparison.specs.Comparing.{still_made};
+ghost use Rattle.comparison.specs.Running.{IsErrorOfJob, is_open, work};
 ghost use Rattle.sinks.specs.Owned.{event_of};
 ghost use Rattle.streams.specs.Errors.{is_err_of_read};
 ghost use Rattle.streams.specs.Source.{SourceState};
@@ -55,10 +54,8 @@ impl<'p, A: Allocator + Copy, P: Allocator> Follower<'p, A, P> {
             HasFollowed profile.now panel.now first first [] result }
         ensures number { result.run.number ≡ number }
     {
-        Follower {
-            job: RunningJob::new(alloc, profile, panel, number),
-            taken: 0,
-        }
+        let job = RunningJob::new(alloc, profile, panel, number);
+        Follower { job, taken: 0 }
     }
 
     /// The job.
@@ -73,21 +70,43 @@ impl<'p, A: Allocator + Copy, P: Allocator> Follower<'p, A, P> {
     /// The errors are those of a step of a job.
     pub(crate) fn come<S: Source>(&mut self, source: &mut S) -> Result<(), Error>
         requires { IsFalse (S.state source.old).failed }
-        ensures run { OnOk result ((printer : Printer) (panel : Panel) (first : SourceState)
-            (made : List Made) →
-            HasFollowed printer panel first (S.state source.old) made self.old →
-            HasFollowed printer panel first (S.state source.new) made self.new) }
+        ensures run { OnOk result (FollowsOn (S.state source.old) (S.state source.new)
+            self.old self.new) }
         ensures came { OnOk result (still_made self.new ≡ [] →
             is_open self.new.run.progress ≡ false) }
         ensures number { self.new.run.number ≡ self.old.run.number }
         ensures read { (S.state source.new).failed ≡ is_err_of_read result }
         ensures err { IfErr result IsErrorOfJob }
     {
-        while self.next().is_none() && self.job.is_open() {
-            self.taken = 0;
-            self.job.step(source)?;
+        'steps: while self.lacks_next() {
+            self.go_on(source)?;
         }
         Ok(())
+    }
+
+    /// Whether an event is still to come, and the job is not over.
+    fn lacks_next(&self) -> bool
+        ensures { result ≡ lacks_next self.now }
+    {
+        match self.next() {
+            Some(_) => false,
+            None => self.job.is_open(),
+        }
+    }
+
+    /// Takes the next step of the job, all of whose events are behind it.
+    fn go_on<S: Source>(&mut self, source: &mut S) -> Result<(), Error>
+        requires working { IsFalse (S.state source.old).failed }
+        requires lacks { lacks_next self.old ≡ true }
+        ensures run { OnOk result (FollowsOn (S.state source.old) (S.state source.new)
+            self.old self.new) }
+        ensures less { OnOk result (work self.new.run < work self.old.run) }
+        ensures number { self.new.run.number ≡ self.old.run.number }
+        ensures read { (S.state source.new).failed ≡ is_err_of_read result }
+        ensures err { IfErr result IsErrorOfJob }
+    {
+        self.taken = 0;
+        self.job.step(source)
     }
 
     /// The event that is not behind it, where one has come.
@@ -102,7 +121,8 @@ impl<'p, A: Allocator + Copy, P: Allocator> Follower<'p, A, P> {
         requires { self.old.taken < length self.old.run.events }
         ensures { self.new ≡ record self.old { taken = self.old.taken + 1 } }
     {
-        self.taken += 1;
+        let count = self.job.events().len();
+        self.taken = next_place(self.taken, count);
     }
 
     /// What differs between an event of OLD, whose item stands at a place, and the one that has
@@ -113,16 +133,13 @@ impl<'p, A: Allocator + Copy, P: Allocator> Follower<'p, A, P> {
         place: Place,
         spot: Spot,
     ) -> Option<Difference>
-        requires came { still_made self.now ≡ [] → is_open self.now.run.progress ≡ false }
+        requires { still_made self.now ≡ [] → is_open self.now.run.progress ≡ false }
         ensures { IsNextDifference spot place (event_of event.now) self.now result }
     {
+        let own_place = self.job.place();
         match self.next() {
-            Some(next) if is_same(event, next) => None,
-            Some(next) => {
-                let change = change_of(event, next);
-                Some(spot.difference(place, self.job.place(), change))
-            }
-            None => Some(spot.difference(place, self.job.place(), Change::OnlyInOld)),
+            Some(next) => difference_of(event, place, next, own_place, spot),
+            None => Some(spot.difference(place, own_place, Change::OnlyInOld)),
         }
     }
 
@@ -136,4 +153,30 @@ impl<'p, A: Allocator + Copy, P: Allocator> Follower<'p, A, P> {
             None => None,
         }
     }
+}
+
+/// The place behind one of so many.
+fn next_place(place: usize, count: usize) -> usize
+    requires { place < count }
+    ensures { result ≡ place + 1 }
+{
+    place + 1
+}
+
+/// What differs between an event of OLD and one of NEW, whose items stand at these places.
+fn difference_of<A: Allocator>(
+    of_old: &OwnedEvent<A>,
+    old_place: Place,
+    of_new: &OwnedEvent<A>,
+    new_place: Place,
+    spot: Spot,
+) -> Option<Difference>
+    ensures { result ≡ difference_of spot old_place new_place
+        (event_of of_old.now) (event_of of_new.now) }
+{
+    if is_same(of_old, of_new) {
+        return None;
+    }
+    let change = change_of(of_old, of_new);
+    Some(spot.difference(old_place, new_place, change))
 }

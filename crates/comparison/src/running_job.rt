@@ -1,13 +1,13 @@
 //! A job that is carried out, item by item, as it is read.
 
-ghost use Rattle.std.specs.Prelude.{◌≡◌, ◌++◌, ◌<◌, List, [], IfErr, IsFalse, OnOk, false, map};
-ghost use Rattle.std.specs.Prelude.{true};
+ghost use Rattle.std.specs.Prelude.{◌≡◌, ◌*◌, ◌<◌, ◌≤◌, ◌^◌, List, [], IfErr, IsFalse, OnOk, length, map};
+ghost use Rattle.std.specs.Prelude.{false, true};
 ghost use Rattle.device_profile.specs.Printer.{IsAllowed, Printer};
 ghost use Rattle.device_profile.specs.declared.panel.Panel.{Panel};
-ghost use Rattle.pcl_lexer.specs.Lexing.State.{WantsMore};
 ghost use Rattle.comparison.specs.Comparison.{Made};
-ghost use Rattle.comparison.specs.Running.{HasRun, IsErrorOfJob, failure_of, is_open, last_made};
-ghost use Rattle.comparison.specs.Running.{work};
+ghost use Rattle.comparison.specs.Running.{GoesBy, HasRun, IsErrorOfJob, IsWaiting, RunsOn, RunsOut};
+ghost use Rattle.comparison.specs.Running.{TakesEnd, TakesPiece, TakesWork, failure_of, is_open};
+ghost use Rattle.comparison.specs.Running.{place_after, progress_after, work};
 ghost use Rattle.sinks.specs.Owned.{event_of};
 ghost use Rattle.streams.specs.Errors.{is_err_of_read};
 ghost use Rattle.streams.specs.Source.{SourceState};
@@ -18,7 +18,7 @@ use page_machine::{Machine, Start};
 use pcl_items::Place;
 use pcl_lexer::Lexer;
 use sinks::{OwnedEvent, Recorder};
-use std::alloc::Allocator;
+use std::alloc::{AllocError, Allocator};
 use std::marker::Model;
 use streams::{Error, PIECE, Source};
 use verdict::Failure;
@@ -35,6 +35,8 @@ pub(crate) enum Progress {
     Ended,
     /// It fails.
     Fails(Failure),
+    /// Memory was refused, and nothing more is known of it.
+    OutOfMemory,
 }
 
 /// A job that is carried out on a printer from a panel. It keeps what its last item made.
@@ -88,14 +90,16 @@ impl<'p, A: Allocator + Copy, P: Allocator> RunningJob<'p, A, P> {
         requires { IsAllowed profile.now panel.now }
         ensures run { (first : SourceState) →
             HasRun profile.now panel.now first first [] result }
-        ensures open { is_open result.progress ≡ true }
         ensures number { result.number ≡ number }
         ensures none { result.events ≡ [] }
     {
+        let lexer = Lexer::new(alloc);
+        let machine = Machine::new(alloc, profile, Start::At(*panel));
+        let recorder = Recorder::new(alloc);
         RunningJob {
-            lexer: Lexer::new(alloc),
-            machine: Machine::new(alloc, profile, Start::At(*panel)),
-            recorder: Recorder::new(alloc),
+            lexer,
+            machine,
+            recorder,
             place: 0,
             total: 0,
             reads: 0,
@@ -108,7 +112,12 @@ impl<'p, A: Allocator + Copy, P: Allocator> RunningJob<'p, A, P> {
     pub(crate) fn is_open(&self) -> bool
         ensures { result ≡ is_open self.now.progress }
     {
-        matches!(self.progress, Progress::Open)
+        match self.progress {
+            Progress::Open => true,
+            Progress::Ended => false,
+            Progress::Fails(_) => false,
+            Progress::OutOfMemory => false,
+        }
     }
 
     /// Why the job fails, if it was found to fail.
@@ -119,6 +128,7 @@ impl<'p, A: Allocator + Copy, P: Allocator> RunningJob<'p, A, P> {
             Progress::Open => None,
             Progress::Ended => None,
             Progress::Fails(failure) => Some(failure),
+            Progress::OutOfMemory => None,
         }
     }
 
@@ -141,43 +151,54 @@ impl<'p, A: Allocator + Copy, P: Allocator> RunningJob<'p, A, P> {
     /// An error is `Read` where the read failed, `Memory`, or `Turns` where it was one too many.
     pub(crate) fn step<S: Source>(&mut self, source: &mut S) -> Result<(), Error>
         requires working { IsFalse (S.state source.old).failed }
-        requires open { is_open self.old.progress ≡ true }
-        ensures run { OnOk result ((printer : Printer) (panel : Panel) (first : SourceState)
-            (made : List Made) → HasRun printer panel first (S.state source.old) made self.old →
-            HasRun printer panel first (S.state source.new) (made ++ last_made self.new)
-            self.new) }
+        requires running { is_open self.old.progress ≡ true }
+        ensures run { OnOk result (RunsOn (S.state source.old) (S.state source.new)
+            self.old self.new) }
         ensures less { OnOk result (work self.new < work self.old) }
         ensures number { self.new.number ≡ self.old.number }
         ensures read { (S.state source.new).failed ≡ is_err_of_read result }
         ensures err { IfErr result IsErrorOfJob }
     {
+        let stepped = self.advance();
+        match stepped {
+            Stepped::More => self.read(source),
+            Stepped::Refused => Err(Error::Memory),
+            _ => Ok(()),
+        }
+    }
+
+    /// Carries out the next item or the end, as far as the bytes that were fed decide these. What
+    /// was made before is forgotten.
+    fn advance(&mut self) -> Stepped
+        requires { is_open self.old.progress ≡ true }
+        ensures came { (printer : Printer) (panel : Panel) (first now : SourceState)
+            (made : List Made) → HasRun printer panel first now made self.old →
+            GoesBy result printer panel first now made self.new }
+        ensures waits { result ≡ Stepped.More → IsWaiting self.new }
+        ensures less { TakesWork result self.old self.new }
+        ensures number { self.new.number ≡ self.old.number }
+    {
         self.recorder.clear();
         let (lexer, machine) = (&mut self.lexer, &mut self.machine);
-        let came = step(lexer, machine, &mut self.recorder, self.number, self.total)?;
-        match came {
-            Stepped::On(place) => self.place = place,
-            Stepped::More => return self.read(source),
-            Stepped::AtEnd => {
-                self.place = self.total;
-                self.progress = Progress::Ended;
-            }
-            Stepped::FailsBy(failure) => self.progress = Progress::Fails(failure),
-        }
-        Ok(())
+        let stepped = step(
+            lexer,
+            machine,
+            &mut self.recorder,
+            self.number,
+            self.total,
+        );
+        self.place = place_after(stepped, self.place, self.total);
+        self.progress = progress_after(stepped);
+        stepped
     }
 
     /// Reads on, where the bytes so far decide nothing more.
     fn read<S: Source>(&mut self, source: &mut S) -> Result<(), Error>
         requires working { IsFalse (S.state source.old).failed }
-        requires open { is_open self.old.progress ≡ true }
-        requires more { WantsMore self.old.lexer }
-        requires unended { self.old.lexer.ended ≡ false }
-        requires empty { self.old.events ≡ [] }
-        ensures run { OnOk result ((printer : Printer) (panel : Panel) (first : SourceState)
-            (made : List Made) → HasRun printer panel first (S.state source.old) made self.old →
-            HasRun printer panel first (S.state source.new) made self.new) }
+        requires waits { IsWaiting self.old }
+        ensures run { OnOk result (RunsOn (S.state source.old) (S.state source.new)
+            self.old self.new) }
         ensures less { OnOk result (work self.new < work self.old) }
-        ensures none { OnOk result (self.new.events ≡ []) }
         ensures number { self.new.number ≡ self.old.number }
         ensures read { (S.state source.new).failed ≡ is_err_of_read result }
         ensures err { IfErr result IsErrorOfJob }
@@ -189,13 +210,42 @@ impl<'p, A: Allocator + Copy, P: Allocator> RunningJob<'p, A, P> {
         let Ok(count) = source.read(&mut piece) else {
             return Err(Error::Read);
         };
-        self.reads += 1;
         if count == 0 {
-            self.lexer.end_input();
+            self.take_end();
             return Ok(());
         }
-        self.lexer.feed(&piece[..count])?;
-        self.total += count as u64;
+        self.take_piece(&piece[..count])?;
+        Ok(())
+    }
+
+    /// Takes the end of the job.
+    fn take_end(&mut self)
+        requires waits { IsWaiting self.old }
+        requires few { self.old.reads < 2 ^ 40 }
+        ensures ended { TakesEnd self.old self.new }
+        ensures less { work self.new < work self.old }
+        ensures none { self.new.events ≡ [] }
+        ensures number { self.new.number ≡ self.old.number }
+    {
+        self.lexer.end_input();
+        self.reads += 1;
+    }
+
+    /// Takes a further piece of the job.
+    fn take_piece(&mut self, piece: &[u8]) -> Result<(), AllocError>
+        requires waits { IsWaiting self.old }
+        requires few { self.old.reads < 2 ^ 40 }
+        requires small { self.old.total ≤ 4096 * self.old.reads }
+        requires some { 0 < length piece.now }
+        requires short { length piece.now ≤ 4096 }
+        ensures fed { OnOk result (TakesPiece piece.now self.old self.new) }
+        ensures less { OnOk result (work self.new < work self.old) }
+        ensures none { OnOk result (self.new.events ≡ []) }
+        ensures number { self.new.number ≡ self.old.number }
+    {
+        self.lexer.feed(piece)?;
+        self.reads += 1;
+        self.total += piece.len() as u64;
         Ok(())
     }
 
@@ -204,19 +254,42 @@ impl<'p, A: Allocator + Copy, P: Allocator> RunningJob<'p, A, P> {
     /// The errors are those of `step`.
     pub(crate) fn run_out<S: Source>(&mut self, source: &mut S) -> Result<(), Error>
         requires { IsFalse (S.state source.old).failed }
-        ensures run { OnOk result ((printer : Printer) (panel : Panel) (first : SourceState)
-            (made : List Made) → HasRun printer panel first (S.state source.old) made self.old →
-            (more : List Made) × HasRun printer panel first (S.state source.new) (made ++ more)
-            self.new) }
+        ensures run { OnOk result (RunsOut (S.state source.old) (S.state source.new)
+            self.old self.new) }
         ensures over { OnOk result (is_open self.new.progress ≡ false) }
-        ensures same { is_open self.old.progress ≡ false → self.new ≡ self.old }
         ensures number { self.new.number ≡ self.old.number }
         ensures read { (S.state source.new).failed ≡ is_err_of_read result }
         ensures err { IfErr result IsErrorOfJob }
     {
-        while self.is_open() {
+        'steps: while self.is_open() {
             self.step(source)?;
         }
         Ok(())
+    }
+}
+
+/// Where the last item stands behind a step, which stood at a place before it.
+fn place_after(stepped: Stepped, last: Place, total: u64) -> Place
+    ensures { result ≡ place_after stepped last total }
+{
+    match stepped {
+        Stepped::On(place) => place,
+        Stepped::More => last,
+        Stepped::AtEnd => total,
+        Stepped::FailsBy(_) => last,
+        Stepped::Refused => last,
+    }
+}
+
+/// Whether a job is over behind a step.
+fn progress_after(stepped: Stepped) -> Progress
+    ensures { result ≡ progress_after stepped }
+{
+    match stepped {
+        Stepped::On(_) => Progress::Open,
+        Stepped::More => Progress::Open,
+        Stepped::AtEnd => Progress::Ended,
+        Stepped::FailsBy(failure) => Progress::Fails(failure),
+        Stepped::Refused => Progress::OutOfMemory,
     }
 }
