@@ -1,5 +1,5 @@
 -- The ends of two jobs that were compared: where one of them fails, and where neither does.
-use Rattle.std.proofs.Common.{◌≡◌, ℕ, true, false, List, ◌++◌, Option, None, Some, Result, Ok, Err, IfErr, OnOk, refl, ap, sym, ◌∙◌, subst}
+use Rattle.std.proofs.Common.{◌≡◌, ℕ, true, false, List, ◌++◌, None, Some, Result, Ok, Err, IfErr, OnOk, refl, ap, sym, ◌∙◌, subst}
 use Rattle.std.proofs.Common.{append-nil}
 use Rattle.std.proofs.lemmas.Bool.{false≢true}
 use Rattle.pcl_lexer.specs.Lexing.Meaning.{MayBe}

@@ -1,6 +1,6 @@
 -- The next event of a job that follows, and how it goes on.
-use Rattle.std.proofs.Common.{◌≡◌, ◌+◌, ◌<◌, ◌≤◌, ℕ, zero, suc, Bool, true, false, List, [], ◌∷◌, ◌++◌, length, map, drop, arith}
-use Rattle.std.proofs.Common.{Bor, Option, None, Some, option_copied, option_map, refl, ap, sym, ◌∙◌, subst, append-nil, append_assoc}
+use Rattle.std.proofs.Common.{◌≡◌, ◌<◌, ℕ, zero, suc, Bool, true, false, List, [], ◌∷◌, ◌++◌, length, map, drop}
+use Rattle.std.proofs.Common.{Bor, Option, None, Some, option_copied, option_map, refl, ap, sym, ◌∙◌, subst, append-nil}
 use Rattle.std.proofs.Common.{if◌then◌else◌}
 use Rattle.std.specs.List.{slice_get}
 use Rattle.std.specs.Slice.{IsItemAt}
@@ -13,14 +13,12 @@ use Rattle.preflight.specs.Same.{is_same_event}
 use Rattle.streams.specs.Source.{SourceState}
 use Rattle.comparison.specs.declared.difference.Change.TheVariants.{OnlyInOld, OnlyInNew}
 use Rattle.comparison.specs.declared.difference.Comparison.TheVariants.{Differs}
-use Rattle.comparison.specs.declared.difference.Difference.{Difference}
 use Rattle.comparison.specs.declared.difference.Spot.{Spot}
-use Rattle.comparison.specs.declared.running_job.Progress.{Progress}
 use Rattle.comparison.specs.Changes.{change_of}
 use Rattle.comparison.specs.Comparison.{Made, behind_event, compared, difference_at, made_at}
 use Rattle.comparison.specs.Comparing.{Following, FollowsOn, HasFollowed, IsNextDifference, difference_of, first_further}
 use Rattle.comparison.specs.Comparing.{further_difference, lacks, lacks_next, next_of, still_made}
-use Rattle.comparison.specs.Running.{HasRun, MayMake, RunState, RunsOn, is_open, last_made}
+use Rattle.comparison.specs.Running.{HasRun, RunState, RunsOn, is_open}
 use Rattle.comparison.proofs.Sameness.{same_event}
 
 -- ---- an element of a list, as it is lent
@@ -29,7 +27,8 @@ copied_at : {X : Type 0} (xs : List X) (i : ℕ) (found : Option (Bor X)) → Is
 copied_at xs i None item = sym (slice_get_past xs i item.3)
 copied_at xs i (Some x) item = sym (slice_get_read xs (length xs) i x.now refl item.3.0 item.1)
 
-copied_by : {X Y : Type 0} (f : X → Y) (found : Option (Bor X)) → option_map (λ (x : Bor X). f x.now) found ≡ option_map f (option_copied found)
+copied_by : {X Y : Type 0} (f : X → Y) (found : Option (Bor X)) →
+    option_map (λ (x : Bor X). f x.now) found ≡ option_map f (option_copied found)
 copied_by f None = refl
 copied_by f (Some x) = refl
 

@@ -6,7 +6,7 @@ use Rattle.std.proofs.lemmas.Bool.{false≢true}
 use Rattle.pcl_items.specs.Items.{Placed}
 use Rattle.pcl_lexer.specs.Lexing.Contexts.{pending}
 use Rattle.pcl_lexer.specs.Lexing.Meaning.{HasRead}
-use Rattle.pcl_lexer.specs.Lexing.State.{LexerState, WantsMore, at_start}
+use Rattle.pcl_lexer.specs.Lexing.State.{LexerState, at_start}
 use Rattle.pcl_lexer.specs.Modes.{mode_of}
 use Rattle.pcl_lexer.specs.Reading.{left}
 use Rattle.device_profile.specs.declared.panel.Panel.{Panel}

@@ -14,7 +14,7 @@ use Rattle.comparison.specs.Comparison.{Made, at_start, behind_event, compared, 
 use Rattle.comparison.specs.Comparing.{AreLevel, EventCompared, EventCompares, EndsCompare, Following, FollowsOn, GoAlike, HasFollowed}
 use Rattle.comparison.specs.Comparing.{IsNextDifference, ItemCompared, ItemCompares, StepCompares, ends_found, first_further}
 use Rattle.comparison.specs.Comparing.{events_made, further_difference, spot_behind, still_made}
-use Rattle.comparison.specs.Running.{HasRun, MayMake, RunState, RunsOn, is_open, last_made}
+use Rattle.comparison.specs.Running.{HasRun, RunState, RunsOn, is_open, last_made}
 use Rattle.comparison.proofs.Sameness.{event_same}
 
 -- ---- behind what is the same

@@ -4,8 +4,8 @@ ghost use Rattle.std.specs.Prelude.{◌≡◌, ◌+◌, ◌<◌, [], IfErr, IsFa
 ghost use Rattle.std.specs.Prelude.{length, option_map};
 ghost use Rattle.device_profile.specs.Printer.{IsAllowed};
 ghost use Rattle.comparison.specs.Comparing.{FollowsOn, HasFollowed, IsNextDifference};
-ghost use Rattle.comparison.specs.Comparing.{difference_of, further_difference, lacks_next, next_of};
-ghost use Rattle.comparison.specs.Comparing.{still_made};
+ghost use Rattle.comparison.specs.Comparing.{difference_of, further_difference, lacks_next};
+ghost use Rattle.comparison.specs.Comparing.{next_of, still_made};
 ghost use Rattle.comparison.specs.Running.{IsErrorOfJob, is_open, work};
 ghost use Rattle.sinks.specs.Owned.{event_of};
 ghost use Rattle.streams.specs.Errors.{is_err_of_read};

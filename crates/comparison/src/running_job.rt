@@ -1,13 +1,13 @@
 //! A job that is carried out, item by item, as it is read.
 
-ghost use Rattle.std.specs.Prelude.{◌≡◌, ◌*◌, ◌<◌, ◌≤◌, ◌^◌, List, [], IfErr, IsFalse, OnOk, length, map};
-ghost use Rattle.std.specs.Prelude.{false, true};
+ghost use Rattle.std.specs.Prelude.{◌≡◌, ◌*◌, ◌<◌, ◌≤◌, ◌^◌, List, [], IfErr, IsFalse, OnOk};
+ghost use Rattle.std.specs.Prelude.{false, length, map, true};
 ghost use Rattle.device_profile.specs.Printer.{IsAllowed, Printer};
 ghost use Rattle.device_profile.specs.declared.panel.Panel.{Panel};
 ghost use Rattle.comparison.specs.Comparison.{Made};
-ghost use Rattle.comparison.specs.Running.{GoesBy, HasRun, IsErrorOfJob, IsWaiting, RunsOn, RunsOut};
-ghost use Rattle.comparison.specs.Running.{TakesEnd, TakesPiece, TakesWork, failure_of, is_open};
-ghost use Rattle.comparison.specs.Running.{place_after, progress_after, work};
+ghost use Rattle.comparison.specs.Running.{GoesBy, HasRun, IsErrorOfJob, IsWaiting, RunsOn};
+ghost use Rattle.comparison.specs.Running.{RunsOut, TakesEnd, TakesPiece, TakesWork, failure_of};
+ghost use Rattle.comparison.specs.Running.{is_open, place_after, progress_after, work};
 ghost use Rattle.sinks.specs.Owned.{event_of};
 ghost use Rattle.streams.specs.Errors.{is_err_of_read};
 ghost use Rattle.streams.specs.Source.{SourceState};
@@ -180,13 +180,7 @@ impl<'p, A: Allocator + Copy, P: Allocator> RunningJob<'p, A, P> {
     {
         self.recorder.clear();
         let (lexer, machine) = (&mut self.lexer, &mut self.machine);
-        let stepped = step(
-            lexer,
-            machine,
-            &mut self.recorder,
-            self.number,
-            self.total,
-        );
+        let stepped = step(lexer, machine, &mut self.recorder, self.number, self.total);
         self.place = place_after(stepped, self.place, self.total);
         self.progress = progress_after(stepped);
         stepped

@@ -1,4 +1,4 @@
-use Rattle.std.proofs.Common.{◌≡◌, Some, ap, subst, sym, ◌∙◌}
+use Rattle.std.proofs.Common.{Some, ap, subst, sym, ◌∙◌}
 use Rattle.sinks.specs.Owned.{event_of}
 use Rattle.comparison.specs.declared.difference.Change.TheVariants.{OnlyInOld}
 use Rattle.comparison.specs.Comparing.{Following, IsNextDifference, difference_of}

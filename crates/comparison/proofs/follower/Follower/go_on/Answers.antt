@@ -1,4 +1,4 @@
-use Rattle.std.proofs.Common.{◌≡◌, ◌<◌, ap, subst, ◌∙◌}
+use Rattle.std.proofs.Common.{◌<◌, ap, subst, ◌∙◌}
 use Rattle.std.proofs.lemmas.Result.{on_ok_weaker}
 use Rattle.comparison.specs.Comparing.{Following}
 use Rattle.comparison.specs.Running.{RunsOn, is_open, work}

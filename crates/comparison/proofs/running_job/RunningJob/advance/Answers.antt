@@ -1,4 +1,4 @@
-use Rattle.std.proofs.Common.{◌≡◌, ap, subst, sym, true, ◌∙◌}
+use Rattle.std.proofs.Common.{ap, subst, sym, ◌∙◌}
 use Rattle.sinks.specs.Recorder.{Recorded}
 use Rattle.comparison.specs.Running.{HasRun, RunState, TakesWork, is_open}
 use Rattle.comparison.proofs.Running.{advanced, runs_after, stepped_run, waits_now, work_taken}

@@ -1,6 +1,4 @@
-use Rattle.std.proofs.Common.{ap, refl, ◌∙◌}
-use Rattle.pcl_lexer.specs.Lexing.State.{LexerState}
-use Rattle.pcl_lexer.specs.Modes.{mode_of}
+use Rattle.std.proofs.Common.{ap}
 use Rattle.sinks.specs.Recorder.{Recorded}
 use Rattle.comparison.proofs.Running.{starts, starts_ready}
 use Rattle.comparison.proofs.running_job.RunningJob.new.Goals as goal

@@ -1,7 +1,7 @@
-use Rattle.std.proofs.Common.{◌≡◌, ◌<◌, ◌^◌, ap, arith, subst, sym, ◌∙◌}
+use Rattle.std.proofs.Common.{◌+◌, ◌<◌, ◌^◌, ap, arith, length, subst, sym, ◌∙◌}
 use Rattle.pcl_lexer.specs.Lexing.State.{LexerState}
 use Rattle.pcl_lexer.specs.Modes.{mode_of}
-use Rattle.comparison.specs.Running.{HasRun, IsWaiting, RunState, is_open, work}
+use Rattle.comparison.specs.Running.{HasRun, IsWaiting, RunState, work}
 use Rattle.comparison.proofs.Running.{end_taken, ended_run, less_by_end}
 use Rattle.comparison.proofs.running_job.RunningJob.take_end.Goals as goal
 
