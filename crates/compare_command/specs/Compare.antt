@@ -32,6 +32,7 @@ use Rattle.comparison.specs.declared.difference.Difference.{Difference}
 use Rattle.comparison.specs.Comparison.{IsComparison}
 use Rattle.compare_command.specs.declared.command.CompareAsked.{CompareAsked}
 use Rattle.compare_command.specs.declared.found.Found.{Found}
+use Rattle.compare_command.specs.declared.telling.Telling.{Telling}
 use Rattle.compare_command.specs.Lines.{difference_line, name_of, same_line}
 use Rattle.compare_command.specs.Sentences.{difference_sentence, same_sentence}
 use Rattle.compare_command.specs.Objects.{difference_object, same_object}
@@ -44,6 +45,14 @@ pub record HowTold : Type 0 where
   pub new_name : List ℕ
   pub names : List (List ℕ)
   pub form : Form
+
+abbrev pub told_by : Telling → HowTold
+told_by telling = record {
+  old_name = telling.old_name.now;
+  new_name = telling.new_name.now;
+  names = map (λ name. name.items) telling.printers.now;
+  form = telling.form;
+}
 
 abbrev pub judged : Failure → Judgement
 judged failure = record { verdict = failing failure; failing_item = None; page = None; cursor = None; font = None }

@@ -1,13 +1,17 @@
 //! The command `compare`.
 
 ghost use Rattle.std.specs.Prelude.{◌≡◌, ◌≢◌, ◌⊎◌, [], IfErr, IfOk, IsFalse, OnOk, map};
+ghost use Rattle.comparison.specs.Comparison.{IsComparison};
 ghost use Rattle.comparison.specs.Running.{IsErrorOfJob};
 ghost use Rattle.compare_command.specs.Compare.{AreCompared, AreOfTexts, IsCompared};
 ghost use Rattle.compare_command.specs.Compare.{LeavesCompared, LeavesFound, RefusesPrinter};
-ghost use Rattle.compare_command.specs.Compare.{StopsAt, WritesFound, asked_for, format_of};
-ghost use Rattle.compare_command.specs.Compare.{found_text, status_of};
+ghost use Rattle.compare_command.specs.Compare.{StopsAt, WritesFound, asked_for, first_counts};
+ghost use Rattle.compare_command.specs.Compare.{format_of, found_text, status_of, telling_of};
+ghost use Rattle.compare_command.specs.Compare.{told_by};
+ghost use Rattle.device_profile.specs.Printer.{first_panel};
 ghost use Rattle.named_inputs.specs.Texts.{AsksInOrder};
 ghost use Rattle.sinks.specs.Counts.{no_counts};
+ghost use Rattle.streams.specs.Pieces.{ByReads};
 
 use crate::found::Found;
 use crate::telling::{Telling, found_text};
@@ -65,25 +69,10 @@ pub fn compare<'n, J: Jobs<'n>, T: ProfileTexts, O: Outlet, E: Outlet>(
     ensures named { AsksInOrder (map (λ word. word.now) asked.now.printers.now)
         (T.named texts.old) (T.named texts.new) }
 {
-    let printers = match read_printers(alloc, texts, asked, stderr) {
-        Ok(printers) => printers,
-        Err(status) => return status,
-    };
-    let telling = Telling {
-        old_name: asked.old_name,
-        new_name: asked.new_name,
-        printers: printers.names.as_slice(),
-        form: asked.form,
-    };
-    compare_for(
-        alloc,
-        jobs,
-        asked,
-        printers.fleet.as_slice(),
-        &telling,
-        stdout,
-        stderr,
-    )
+    match read_printers(alloc, texts, asked, stderr) {
+        Ok(printers) => compare_on_printers(alloc, jobs, asked, &printers, stdout, stderr),
+        Err(status) => status,
+    }
 }
 
 /// The printers that words name. Of one that is refused standard error is told.
@@ -117,10 +106,10 @@ fn read_printers<T: ProfileTexts, E: Outlet>(
             return Err(tell_refusal(alloc, &many, word, told, status, stderr));
         }
     };
-    match printer_names(alloc, kept.as_slice()) {
-        Ok(names) => Ok(Printers { fleet, names }),
-        Err(_) => Err(Status::Stopped(Error::Memory)),
-    }
+    let Ok(names) = printer_names(alloc, kept.as_slice()) else {
+        return Err(Status::Stopped(Error::Memory));
+    };
+    Ok(Printers { fleet, names })
 }
 
 /// A check of no job for the same printers, by whose form a refusal is told.
@@ -150,32 +139,33 @@ fn format_of(form: Form) -> Format
     ensures { result ≡ format_of form }
 {
     match form {
+        Form::Line => Format::Line,
         Form::Words => Format::Words,
-        Form::Line | Form::Json | Form::Html => Format::Line,
+        Form::Json => Format::Line,
+        Form::Html => Format::Line,
     }
 }
 
 /// Compares the jobs on these printers, and writes what is found.
-fn compare_for<'n, J: Jobs<'n>, O: Outlet, E: Outlet>(
+fn compare_on_printers<'n, J: Jobs<'n>, O: Outlet, E: Outlet>(
     alloc: Global,
     jobs: &mut J,
     asked: &CompareAsked<'_, 'n>,
-    fleet: &[Profile],
-    telling: &Telling<'_>,
+    printers: &Printers,
     stdout: &mut O,
     stderr: &mut E,
 ) -> Status
     requires stdout { IsFalse (O.state stdout.old).failed }
     requires stderr { IsFalse (E.state stderr.old).failed }
-    requires old_name { telling.now.old_name ≡ asked.now.old_name.now }
-    requires new_name { telling.now.new_name ≡ asked.now.new_name.now }
-    requires form { telling.now.form ≡ asked.now.form }
-    ensures { LeavesFound (asked_for asked.now) fleet.now telling.now.names
+    ensures { LeavesFound (asked_for asked.now) printers.now.fleet.items
+        (map (λ name. name.items) printers.now.names.items)
         (J.start jobs.old) result (J.ended jobs.old) (J.ended jobs.new)
         (O.state stdout.old) (O.state stdout.new) (E.state stderr.old) (E.state stderr.new) }
 {
+    let fleet = printers.fleet.as_slice();
+    let names = printers.names.as_slice();
     match find(alloc, jobs, asked, fleet, stderr) {
-        Ok(found) => write_found(alloc, telling, found, stdout),
+        Ok(found) => write_found(alloc, asked, names, found, stdout),
         Err(status) => status,
     }
 }
@@ -198,21 +188,25 @@ fn find<'n, J: Jobs<'n>, E: Outlet>(
         ⊎ StopsAt asked.now.new_name.now status (E.state stderr.old) (E.state stderr.new)) }
 {
     let mut counts = Counts::none();
-    for (before, profile) in fleet.iter().enumerate() {
-        let number = before as u64 + 1;
-        match compare_on(alloc, jobs, asked, profile, number, stderr)? {
-            Comparison::Same(these) => {
-                if before == 0 {
-                    counts = these;
-                }
-            }
-            comparison => return Ok(Found { number, comparison }),
+    for (index, profile) in fleet.iter().enumerate() {
+        let number = index as u64 + 1;
+        let comparison = compare_on(alloc, jobs, asked, profile, number, stderr)?;
+        match comparison {
+            Comparison::Same(these) => counts = first_counts(number, counts, these),
+            _ => return Ok(Found { number, comparison }),
         }
     }
     Ok(Found {
         number: 1,
         comparison: Comparison::Same(counts),
     })
+}
+
+/// The counts on the first printer, behind the one of this number.
+fn first_counts(number: u64, first: Counts, these: Counts) -> Counts
+    ensures { result ≡ first_counts number first these }
+{
+    if number == 1 { these } else { first }
 }
 
 /// Compares the jobs on the printer of this number. Of one that cannot be read standard error is
@@ -235,27 +229,70 @@ fn compare_on<'n, J: Jobs<'n>, E: Outlet>(
         StopsAt asked.now.old_name.now status (E.state stderr.old) (E.state stderr.new)
         ⊎ StopsAt asked.now.new_name.now status (E.state stderr.old) (E.state stderr.new)) }
 {
-    let (old_name, new_name) = (asked.old_name.as_bytes(), asked.new_name.as_bytes());
+    let old_name = asked.old_name.as_bytes();
+    let new_name = asked.new_name.as_bytes();
     let mut old_job = jobs.job(old_name);
     let mut new_job = jobs.job(new_name);
-    let answer = match compare_jobs(alloc, &mut old_job, &mut new_job, profile, number) {
-        Ok(comparison) => Ok(comparison),
-        Err(
-            Unread {
-                which: Which::Old,
-                error,
-            },
-        ) => Err(tell_stop(alloc, &old_job, asked.old_name, error, stderr)),
-        Err(
-            Unread {
-                which: Which::New,
-                error,
-            },
-        ) => Err(tell_stop(alloc, &new_job, asked.new_name, error, stderr)),
-    };
+    let answer = compare_two(
+        alloc,
+        &mut old_job,
+        &mut new_job,
+        asked,
+        profile,
+        number,
+        stderr,
+    );
     jobs.end(old_name, old_job);
     jobs.end(new_name, new_job);
     answer
+}
+
+/// Compares these jobs on the printer of this number.
+fn compare_two<S: Source, E: Outlet>(
+    alloc: Global,
+    old_job: &mut S,
+    new_job: &mut S,
+    asked: &CompareAsked<'_, '_>,
+    profile: &Profile,
+    number: u64,
+    stderr: &mut E,
+) -> Result<Comparison, Status>
+    requires old_job { IsFalse (S.state old_job.old).failed }
+    requires new_job { IsFalse (S.state new_job.old).failed }
+    requires stderr { IsFalse (E.state stderr.old).failed }
+    ensures compared { IfOk result (λ comparison.
+        ByReads (S.state old_job.old) (S.state old_job.new) (λ one.
+        ByReads (S.state new_job.old) (S.state new_job.new) (λ other.
+        IsComparison number profile.now (first_panel profile.now) one other comparison))) }
+    ensures quiet { OnOk result (stderr.new ≡ stderr.old) }
+    ensures stopped { IfErr result (λ status.
+        StopsAt asked.now.old_name.now status (E.state stderr.old) (E.state stderr.new)
+        ⊎ StopsAt asked.now.new_name.now status (E.state stderr.old) (E.state stderr.new)) }
+{
+    match compare_jobs(alloc, old_job, new_job, profile, number) {
+        Ok(comparison) => Ok(comparison),
+        Err(unread) => Err(tell_unread_job(alloc, old_job, new_job, asked, unread, stderr)),
+    }
+}
+
+/// Tells why one of two jobs was not read to its end.
+fn tell_unread_job<S: Source, E: Outlet>(
+    alloc: Global,
+    old_job: &S,
+    new_job: &S,
+    asked: &CompareAsked<'_, '_>,
+    unread: Unread,
+    stderr: &mut E,
+) -> Status
+    requires error { IsErrorOfJob unread.error }
+    requires stderr { IsFalse (E.state stderr.old).failed }
+    ensures { StopsAt asked.now.old_name.now result (E.state stderr.old) (E.state stderr.new)
+        ⊎ StopsAt asked.now.new_name.now result (E.state stderr.old) (E.state stderr.new) }
+{
+    match unread.which {
+        Which::Old => tell_stop(alloc, old_job, asked.old_name, unread.error, stderr),
+        Which::New => tell_stop(alloc, new_job, asked.new_name, unread.error, stderr),
+    }
 }
 
 /// Tells why a job was not read to its end, where a read failed.
@@ -276,22 +313,54 @@ fn tell_stop<S: Source, E: Outlet>(
     }
 }
 
-/// Writes what was found.
+/// Writes what was found on printers of these names.
 fn write_found<O: Outlet>(
     alloc: Global,
-    telling: &Telling<'_>,
+    asked: &CompareAsked<'_, '_>,
+    names: &[Vec<u8>],
     found: Found,
     stdout: &mut O,
 ) -> Status
     requires { IsFalse (O.state stdout.old).failed }
-    ensures { WritesFound (found_text telling.now found.number found.comparison)
+    ensures { WritesFound (found_text
+        (telling_of (asked_for asked.now) (map (λ name. name.items) names.now))
+        found.number found.comparison)
+        (status_of found.comparison) result (O.state stdout.old) (O.state stdout.new) }
+{
+    let telling = Telling {
+        old_name: asked.old_name,
+        new_name: asked.new_name,
+        printers: names,
+        form: asked.form,
+    };
+    write_told(alloc, &telling, found, stdout)
+}
+
+/// Writes what was found.
+fn write_told<O: Outlet>(
+    alloc: Global,
+    telling: &Telling<'_, '_>,
+    found: Found,
+    stdout: &mut O,
+) -> Status
+    requires { IsFalse (O.state stdout.old).failed }
+    ensures { WritesFound (found_text (told_by telling.now) found.number found.comparison)
         (status_of found.comparison) result (O.state stdout.old) (O.state stdout.new) }
 {
     let Ok(text) = found_text(alloc, telling, found) else {
         return Status::Stopped(Error::Memory);
     };
-    match write_text(stdout, text.as_slice()) {
-        Ok(()) => status_of(found.comparison),
+    write_whole(text.as_slice(), found.comparison, stdout)
+}
+
+/// Writes the text of a comparison.
+fn write_whole<O: Outlet>(text: &[u8], comparison: Comparison, stdout: &mut O) -> Status
+    requires { IsFalse (O.state stdout.old).failed }
+    ensures { WritesFound text.now (status_of comparison) result
+        (O.state stdout.old) (O.state stdout.new) }
+{
+    match write_text(stdout, text) {
+        Ok(()) => status_of(comparison),
         Err(_) => Status::Stopped(Error::Write),
     }
 }
@@ -302,6 +371,8 @@ fn status_of(comparison: Comparison) -> Status
 {
     match comparison {
         Comparison::Same(_) => Status::Pass,
-        Comparison::Differs(_) | Comparison::OldFails(_) | Comparison::NewFails(_) => Status::Fail,
+        Comparison::Differs(_) => Status::Fail,
+        Comparison::OldFails(_) => Status::Fail,
+        Comparison::NewFails(_) => Status::Fail,
     }
 }

@@ -113,5 +113,6 @@ fn push_printer<A: Allocator>(
     text.extend_from_slice(b" printer=")?;
     text.extend_from_slice(name)?;
     text.extend_from_slice(b" ")?;
-    text.extend_from_slice(change_words(change))
+    text.extend_from_slice(change_words(change))?;
+    Ok(())
 }

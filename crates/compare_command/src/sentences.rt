@@ -38,7 +38,8 @@ pub(crate) fn push_same_sentence<A: Allocator + Copy>(
     push_named_first(alloc, text, new_name.as_bytes())?;
     text.extend_from_slice(b"prints the same as ")?;
     push_shown_text(text, old_name.as_bytes())?;
-    push_counts_part(text, counts)
+    push_counts_part(text, counts)?;
+    Ok(())
 }
 
 #[tactic(auto, unfolding(crate::specs::Sentences::counts_part))]
@@ -47,7 +48,8 @@ fn push_counts_part<A: Allocator>(text: &mut Vec<u8, A>, counts: Counts) -> Resu
 {
     text.extend_from_slice(b" (")?;
     push_counts(text, counts)?;
-    text.extend_from_slice(b")\n")
+    text.extend_from_slice(b")\n")?;
+    Ok(())
 }
 
 /// Appends the sentence on jobs of these names that differ first so on the printer of this one.
@@ -66,7 +68,8 @@ pub(crate) fn push_difference_sentence<A: Allocator + Copy>(
     push_named_first(alloc, text, new_name.as_bytes())?;
     text.extend_from_slice(b"differs from ")?;
     push_shown_text(text, old_name.as_bytes())?;
-    push_difference(text, printer, difference)
+    push_difference(text, printer, difference)?;
+    Ok(())
 }
 
 #[tactic(auto, unfolding(crate::specs::Sentences::difference_phrase))]
@@ -115,7 +118,8 @@ fn push_printer<A: Allocator>(
     text.extend_from_slice(b" for ")?;
     text.extend_from_slice(printer)?;
     text.extend_from_slice(b": ")?;
-    text.extend_from_slice(change_phrase(change))
+    text.extend_from_slice(change_phrase(change))?;
+    Ok(())
 }
 
 /// What differs.

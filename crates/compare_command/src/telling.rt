@@ -2,7 +2,7 @@
 
 ghost use Rattle.std.specs.Prelude.{◌≡◌, ◌++◌, IfOk, OnOk, map};
 ghost use Rattle.compare_command.specs.Compare.{difference_text, failed, failure_text, found_text};
-ghost use Rattle.compare_command.specs.Compare.{judged, same_text};
+ghost use Rattle.compare_command.specs.Compare.{judged, same_text, told_by};
 ghost use Rattle.compare_command.specs.Lines.{name_of};
 
 use crate::found::Found;
@@ -16,40 +16,25 @@ use preflight::Judgement;
 use requests::Form;
 use sinks::Counts;
 use std::alloc::{AllocError, Global};
-use std::marker::Model;
 use verdict::Failure;
 
 /// The names of both jobs and of the printers, and the form in which it is told.
 #[derive(Clone, Copy)]
-pub(crate) struct Telling<'t> {
-    pub old_name: &'t str,
-    pub new_name: &'t str,
+pub(crate) struct Telling<'n, 't> {
+    pub old_name: &'n str,
+    pub new_name: &'n str,
     pub printers: &'t [Vec<u8>],
     pub form: Form,
-}
-
-impl<'t> Model for Telling<'t> {
-    ghost use Rattle.std.specs.Prelude.{map};
-    ghost use Rattle.compare_command.specs.Compare.{HowTold};
-
-    ghost Value = { HowTold };
-
-    ghost view = { λ telling. record {
-      old_name = telling.old_name.now;
-      new_name = telling.new_name.now;
-      names = map (λ name. name.items) telling.printers.now;
-      form = telling.form;
-    } };
 }
 
 /// The text of what was found.
 pub(crate) fn found_text(
     alloc: Global,
-    telling: &Telling<'_>,
+    telling: &Telling<'_, '_>,
     found: Found,
 ) -> Result<Vec<u8>, AllocError>
     ensures { IfOk result (λ text. text.items
-        ≡ found_text telling.now found.number found.comparison) }
+        ≡ found_text (told_by telling.now) found.number found.comparison) }
 {
     let mut text = Vec::new(alloc);
     push_found(alloc, &mut text, telling, found)?;
@@ -60,38 +45,49 @@ pub(crate) fn found_text(
 fn push_found(
     alloc: Global,
     text: &mut Vec<u8>,
-    telling: &Telling<'_>,
+    telling: &Telling<'_, '_>,
     found: Found,
 ) -> Result<(), AllocError>
     ensures { OnOk result (text.new.items ≡ text.old.items
-        ++ found_text telling.now found.number found.comparison) }
+        ++ found_text (told_by telling.now) found.number found.comparison) }
 {
+    let (form, names) = (telling.form, telling.printers);
     match found.comparison {
-        Comparison::Same(counts) => push_same(alloc, text, telling, counts),
+        Comparison::Same(counts) => {
+            push_same(
+                alloc,
+                text,
+                form,
+                telling.old_name,
+                telling.new_name,
+                counts,
+            )
+        }
         Comparison::Differs(difference) => {
             push_difference(alloc, text, telling, found.number, difference)
         }
         Comparison::OldFails(failure) => {
-            push_failure(alloc, text, telling, telling.old_name, failure)
+            push_failure(alloc, text, form, names, telling.old_name, failure)
         }
         Comparison::NewFails(failure) => {
-            push_failure(alloc, text, telling, telling.new_name, failure)
+            push_failure(alloc, text, form, names, telling.new_name, failure)
         }
     }
 }
 
-/// Appends that both jobs print the same.
+/// Appends that the jobs of these names print the same.
 fn push_same(
     alloc: Global,
     text: &mut Vec<u8>,
-    telling: &Telling<'_>,
+    form: Form,
+    old_name: &str,
+    new_name: &str,
     counts: Counts,
 ) -> Result<(), AllocError>
     ensures { OnOk result (text.new.items ≡ text.old.items
-        ++ same_text telling.now.form telling.now.old_name telling.now.new_name counts) }
+        ++ same_text form old_name.now new_name.now counts) }
 {
-    let (old_name, new_name) = (telling.old_name, telling.new_name);
-    match telling.form {
+    match form {
         Form::Line => push_same_line(text, counts),
         Form::Words => push_same_sentence(alloc, text, old_name, new_name, counts),
         Form::Json => push_same_object(alloc, text, old_name, new_name, counts),
@@ -103,16 +99,31 @@ fn push_same(
 fn push_difference(
     alloc: Global,
     text: &mut Vec<u8>,
-    telling: &Telling<'_>,
+    telling: &Telling<'_, '_>,
     number: u64,
     difference: Difference,
 ) -> Result<(), AllocError>
     ensures { OnOk result (text.new.items ≡ text.old.items
-        ++ difference_text telling.now.form telling.now.old_name telling.now.new_name
-        (name_of telling.now.names number) difference) }
+        ++ difference_text telling.now.form telling.now.old_name.now telling.now.new_name.now
+        (name_of (map (λ name. name.items) telling.now.printers.now) number) difference) }
+{
+    let printer = name_of(telling.printers, number);
+    push_difference_for(alloc, text, telling, printer, difference)
+}
+
+/// Appends that they differ first so on the printer of this name.
+fn push_difference_for(
+    alloc: Global,
+    text: &mut Vec<u8>,
+    telling: &Telling<'_, '_>,
+    printer: &[u8],
+    difference: Difference,
+) -> Result<(), AllocError>
+    ensures { OnOk result (text.new.items ≡ text.old.items
+        ++ difference_text telling.now.form telling.now.old_name.now telling.now.new_name.now
+        printer.now difference) }
 {
     let (old_name, new_name) = (telling.old_name, telling.new_name);
-    let printer = name_of(telling.printers, number);
     match telling.form {
         Form::Line => push_difference_line(text, printer, difference),
         Form::Words => {
@@ -133,29 +144,43 @@ fn name_of(names: &[Vec<u8>], number: u64) -> &[u8]
     }
 }
 
-/// Appends that the job of this name fails, as a check of many jobs tells it.
+/// Appends that the job of this name fails on one of the printers of these names, as a check of
+/// many jobs tells it.
 fn push_failure(
     alloc: Global,
     text: &mut Vec<u8>,
-    telling: &Telling<'_>,
+    form: Form,
+    names: &[Vec<u8>],
     job: &str,
     failure: Failure,
 ) -> Result<(), AllocError>
     ensures { OnOk result (text.new.items ≡ text.old.items
-        ++ failure_text telling.now.form (failed telling.now.names job.now failure)) }
+        ++ failure_text form (failed (map (λ name. name.items) names.now) job.now failure)) }
 {
-    let printers = PrinterGroup::new(&[], &[], telling.printers, false);
+    let printers = PrinterGroup::new(&[], &[], names, false);
     let report = Report {
         printers: &printers,
         job: job.as_bytes(),
         answer: Ok(judged(failure)),
         cause: None,
     };
-    match telling.form {
-        Form::Line => push_job_line(text, &report),
-        Form::Words => push_job_sentence(alloc, text, &report),
-        Form::Json => push_job_object(alloc, alloc, text, &report, ""),
-        Form::Html => push_job_line(text, &report),
+    push_report(alloc, text, form, &report)
+}
+
+/// Appends what came of a job.
+fn push_report(
+    alloc: Global,
+    text: &mut Vec<u8>,
+    form: Form,
+    report: &Report<'_, '_, Global>,
+) -> Result<(), AllocError>
+    ensures { OnOk result (text.new.items ≡ text.old.items ++ failure_text form report.now) }
+{
+    match form {
+        Form::Line => push_job_line(text, report),
+        Form::Words => push_job_sentence(alloc, text, report),
+        Form::Json => push_job_object(alloc, alloc, text, report, ""),
+        Form::Html => push_job_line(text, report),
     }
 }
 

@@ -51,9 +51,9 @@ pub fn compare_jobs<S: Source, T: Source, A: Allocator + Copy, P: Allocator>(
     requires old_job { IsFalse (S.state old_job.old).failed }
     requires new_job { IsFalse (T.state new_job.old).failed }
     ensures compared { IfOk result (λ comparison.
-        ByReads (S.state old_job.old) (S.state old_job.new) (λ old.
-        ByReads (T.state new_job.old) (T.state new_job.new) (λ new.
-        IsComparison number profile.now (first_panel profile.now) old new comparison))) }
+        ByReads (S.state old_job.old) (S.state old_job.new) (λ one.
+        ByReads (T.state new_job.old) (T.state new_job.new) (λ other.
+        IsComparison number profile.now (first_panel profile.now) one other comparison))) }
     ensures old_read { (S.state old_job.new).failed ≡ is_unread Which.Old result }
     ensures new_read { (T.state new_job.new).failed ≡ is_unread Which.New result }
     ensures err { IfErr result (λ unread. IsErrorOfJob unread.error) }

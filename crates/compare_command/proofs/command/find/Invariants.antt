@@ -6,12 +6,12 @@ use Rattle.compare_command.specs.Compare.{AreCompared}
 use Rattle.compare_command.proofs.command.find.Given as goal
 
 -- what is found from here on is what is found of all
-abbrev pub invariant-loop-before : goal.invariant-loop-before
-invariant-loop-before g l = record {
+abbrev pub invariant-loop-index : goal.invariant-loop-index
+invariant-loop-index g l = record {
   start : g.J.Jobs.start l.jobs ≡ g.J.Jobs.start l.initial.jobs;
   quiet : l.stderr ≡ l.initial.stderr;
   onward : (found : Found) (ended : List JobRead) →
-      AreCompared (g.J.Jobs.start l.initial.jobs) l.asked.old_name.now l.asked.new_name.now (l.before + 1) (drop l.before l.fleet)
+      AreCompared (g.J.Jobs.start l.initial.jobs) l.asked.old_name.now l.asked.new_name.now (l.index + 1) (drop l.index l.fleet)
       l.counts found (g.J.Jobs.ended l.jobs) ended →
       AreCompared (g.J.Jobs.start l.initial.jobs) l.asked.old_name.now l.asked.new_name.now 1 l.fleet no_counts found
       (g.J.Jobs.ended l.initial.jobs) ended;
