@@ -1,4 +1,5 @@
-use Rattle.std.proofs.Common.{◌≡◌, map, sym}
+use Rattle.std.proofs.Common.{◌≡◌, [], ◌∷◌, inr, map, refl, subst, sym}
+use Rattle.std.specs.Prelude.{Contains}
 use Rattle.std.proofs.lemmas.Simd.{map-map}
 use Rattle.compare_command.specs.Compare.{asked_for}
 use Rattle.named_inputs.specs.Texts.{text_named}
@@ -17,3 +18,10 @@ returns g c =
     (g.E.Outlet.state c.args.stderr.now) (g.E.Outlet.state c.compare-status.new.stderr) c.in_default.ensures.once known
     c.new-jobs.ensures c.new-texts.ensures.given c.compare-status.ensures.left c.new-texts.ensures.named
     c.compare-status.ensures.named c.end.ensures c.tell.ensures
+
+pub returns-in-Some : goal.returns-in-Some
+returns-in-Some g c =
+    let words = c.args.asked.now in
+    let jobs = words.old_name.now ∷ words.new_name.now ∷ [] in
+    let is_one = subst (λ name. Contains jobs name) (sym c.as_bytes.ensures.value) c.in-Some.ensures.named in
+    inr (c.refuse_pipe.ensures jobs is_one, refl, refl)
