@@ -121,5 +121,12 @@ fn is_as_large(one: &Bounds, other: &Bounds) -> bool
 fn is_as_far(from: Length, to: Length, other_from: Length, other_to: Length) -> bool
     ensures { IsTrue result ↔ (to -ℤ from ≡ other_to -ℤ other_from) }
 {
-    to.ticks() - from.ticks() == other_to.ticks() - other_from.ticks()
+    distance(from, to) == distance(other_from, other_to)
+}
+
+/// How many ticks it is from one place to another.
+fn distance(from: Length, to: Length) -> i64
+    ensures { result ≡ to -ℤ from }
+{
+    to.ticks() - from.ticks()
 }
