@@ -31,6 +31,8 @@ PROFILE_PAGE = ROOT / "man" / "pclcheck-profile.5"
 COMPLETIONS = ROOT / "completions"
 # What -h writes has so many lines at most.
 SHORT_LINES = 15
+# The chapters of the table of commands.
+CHAPTERS = 6
 
 
 def compare_command(comparison: Comparison, command: Command, section: Section) -> None:
@@ -89,10 +91,12 @@ def compare_explanations(comparison: Comparison, program: Program) -> None:
 
 def compare_commands(comparison: Comparison, program: Program) -> None:
     """What `explain` tells of a command by its key, its spelling and its name is the same, behind
-    its line of the list, which stands in the order of keys."""
+    its line of the list, which has each key once, by chapters, and in a chapter in their order."""
     lines = program.output("explain", "commands").splitlines()
     keys = [line.split(" ", 1)[0] for line in lines]
-    comparison.same("the order of commands", keys, sorted(set(keys)))
+    comparison.same("the keys of commands", sorted(keys), sorted(set(keys)))
+    turns = sum(key > behind for key, behind in zip(keys, keys[1:]))
+    comparison.holds("the keys of commands are out of order", turns < CHAPTERS)
     for key, line in zip(keys, lines):
         name, _, state = line.split(" ", 1)[1].rpartition(": ")
         comparison.holds(f"{line!r} has no state", state in ("taken", "refused"))
