@@ -39,8 +39,9 @@ returns-clause-came g c = λ printer panel first now made h.
     } in
     advanced fields c.step-stepped.new.lexer c.step-stepped.new.machine c.step-stepped.new.recorder.events
     (ap (λ (s : RunState). is_open s.progress) c.self.view_is ∙ c.requires) c.step-stepped.ensures.ended printer panel first now made
-    (subst (λ (s : RunState). HasRun printer panel first now made s) (sym c.self.view_is) h) c.step-stepped.result c.place_after-self-inside.result
-    c.progress_after-self-inside.result c.place_after-self-inside.ensures c.progress_after-self-inside.ensures c.step-stepped.ensures.came c.step-stepped.ensures.leaves
+    (subst (λ (s : RunState). HasRun printer panel first now made s) (sym c.self.view_is) h) c.step-stepped.result
+    c.place_after-self-inside.result c.progress_after-self-inside.result c.place_after-self-inside.ensures
+    c.progress_after-self-inside.ensures c.step-stepped.ensures.came c.step-stepped.ensures.leaves
 
 pub returns-clause-waits : goal.returns-clause-waits
 returns-clause-waits g c = λ more.
@@ -75,8 +76,9 @@ returns-clause-less g c =
     (λ (s : RunState). TakesWork c.step-stepped.result s (stepped_run fields c.step-stepped.new.lexer c.step-stepped.new.machine
     c.step-stepped.new.recorder.events c.place_after-self-inside.result c.progress_after-self-inside.result))
     c.self.view_is
-    (work_taken fields c.step-stepped.new.lexer c.step-stepped.new.machine c.step-stepped.new.recorder.events c.place_after-self-inside.result
-    c.progress_after-self-inside.result (ap (λ (s : RunState). is_open s.progress) c.self.view_is ∙ c.requires) c.step-stepped.result
+    (work_taken fields c.step-stepped.new.lexer c.step-stepped.new.machine c.step-stepped.new.recorder.events
+    c.place_after-self-inside.result c.progress_after-self-inside.result
+    (ap (λ (s : RunState). is_open s.progress) c.self.view_is ∙ c.requires) c.step-stepped.result
     c.progress_after-self-inside.ensures c.step-stepped.ensures.leaves)
 
 pub returns-clause-number : goal.returns-clause-number
