@@ -9,7 +9,10 @@ use Rattle.compare_command.proofs.command.find.Goals as goal
 
 pub compare_on-requires : goal.compare_on-requires
 compare_on-requires g c =
-    subst (λ stderr. IsFalse (g.E.Outlet.state stderr).failed) (sym c.loop-index.invariant.quiet) c.requires
+    λ k. (
+      (refl, tt),
+      subst (λ stderr. IsFalse (g.E.Outlet.state stderr).failed) (sym c.loop-index.invariant.quiet) c.requires,
+    )
 
 pub loop-index-init : goal.loop-index-init
 loop-index-init g c = record {
