@@ -18,7 +18,7 @@ sys.path.append(str(Path(__file__).resolve().parent.parent / "crosscheck"))
 
 from help_text import Command, Program                                 # noqa: E402
 
-NAMES = ("check", "survey", "list", "pages", "picture", "notes", "plain", "pin", "explain",
+NAMES = ("check", "survey", "list", "pages", "picture", "pdf", "notes", "plain", "pin", "explain",
          "profile", "profile list", "profile new", "profile lint", "profile show",
          "profile sheet", "profile from-pjl")
 HELP = "-h, --help"

@@ -11,6 +11,7 @@ pub(crate) fn short_help(name: CommandName) -> &'static str {
         CommandName::List => LIST,
         CommandName::Pages => PAGES,
         CommandName::Picture => PICTURE,
+        CommandName::Pdf => PDF,
         CommandName::Notes => NOTES,
         CommandName::Plain => PLAIN,
         CommandName::Pin => PIN,
@@ -30,7 +31,7 @@ const PROGRAM: &str = "Usage: pclcheck <COMMAND>
   survey   all that is refused of jobs, without a verdict
   list     each command of a job
   pages    each mark of a job on a printer
-  picture  a page of a job, drawn
+  picture  a page of a job, drawn; pdf writes all as a document
   notes    what a job that passes leaves to the printer
   plain    a job in its one spelling
   pin      a job that leaves nothing to the panel
@@ -74,6 +75,14 @@ const PICTURE: &str = "Usage:
       all pages
 
 'pclcheck picture --help' tells all.";
+
+const PDF: &str = "Usage:
+  pclcheck pdf JOB PROFILE OUT
+      OUT is a PDF document of all pages, or with --page N of one
+  pclcheck pdf JOB PROFILE OUT --proof
+      with the edges of pages, and with the verdict at their feet
+
+'pclcheck pdf --help' tells all.";
 
 const NOTES: &str = "Usage:
   pclcheck notes JOB PROFILE

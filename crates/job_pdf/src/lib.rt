@@ -1,0 +1,9 @@
+//! The pages of a job on one printer, from one panel, as a PDF document.
+#![tactic(auto)]
+
+mod drawing;
+mod job_pdf;
+mod sheet;
+mod telling;
+
+pub use job_pdf::{WantedPages, pdf_of};
