@@ -63,9 +63,9 @@ abbrev pub behind_ending : Ending → (State → Drawing) → (Finding → Drawi
 behind_ending (Done t) next failed = next t
 behind_ending (Halts finding) next failed = failed finding
 
--- Of an item, or of the end of the bytes, at a place, that ran so from this state, and then what follows. It is written
--- on the sheet that the page has before it: an item that changes the sheet ends its page first, and marks nothing behind
--- that. Behind the last page that is written nothing matters.
+-- Of an item, or of the end of the bytes, at a place, that ran so from this state, and then what follows. It is
+-- written on the sheet that the page has before it: an item that changes the sheet ends its page first, and marks
+-- nothing behind that. Behind the last page that is written nothing matters.
 abbrev pub run_drawing : Plan → Printer → Pdf → State → (place : ℕ) → Run → (Pdf → State → Drawing) → Drawing
 run_drawing plan printer pdf s place r next =
     let pdf' = pdf_behind_all (sheet_of plan printer s) pdf r.events in

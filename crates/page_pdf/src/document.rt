@@ -354,8 +354,8 @@ impl<A: Allocator + Copy> Document<A> {
         sheet: &PageSheet,
         end: PageEnd,
     ) -> Result<(), AllocError>
-        ensures { OnOk result
-            (HasWritten (end_written sheet.now end self.old) text.old.items text.new.items self.new) }
+        ensures { OnOk result (HasWritten (end_written sheet.now end self.old)
+            text.old.items text.new.items self.new) }
     {
         let mut words = Vec::new(self.alloc);
         push_end_words(&mut words, end)?;

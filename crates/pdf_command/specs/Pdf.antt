@@ -32,7 +32,8 @@ pub record LeavesPdfOf (status : Status) (IsPrinter : Printer → List ℕ → T
   pub group : Groups
   pub names_are : group.names ≡ printer_name ∷ []
   pub is_whole : group.is_each ≡ false
-  pub left : LeavesOut status (pdf_rendering printer panel (plan_of selection is_proof name group)) job job' old new start end
+  pub left : LeavesOut status (pdf_rendering printer panel (plan_of selection is_proof name group)) job job' old new
+      start end
 
 -- what `pdf` leaves where it ends by this status
 abbrev pub LeavesPdf : Status → (Printer → List ℕ → Type 0) → List Choice → Selection → (is_proof : Bool) →

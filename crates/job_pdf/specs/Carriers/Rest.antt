@@ -19,8 +19,8 @@ rest_drawing plan machine pdf reading =
 -- and before that what stands before the pages, unless it is written
 abbrev pub drawn_from : Plan → MachineState → Pdf → (is_started : Bool) → Rendering
 drawn_from plan machine pdf is_started = record {
-  text =
-      λ reading. (then_draws (start_if_due is_started) (rest_drawing plan machine (started is_started pdf) reading)).text;
+  text = λ reading.
+      (then_draws (start_if_due is_started) (rest_drawing plan machine (started is_started pdf) reading)).text;
   outcome = λ reading. (rest_drawing plan machine (started is_started pdf) reading).outcome;
   at_fault = λ items place cause.
       start_if_due (started_behind is_started items)

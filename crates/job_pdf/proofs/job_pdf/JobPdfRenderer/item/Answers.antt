@@ -125,7 +125,8 @@ returns-in-None-clause-rendered g c =
     c.in_ok-push_start_if_due.ensures.text c.sheet_of-sheet.result sheet_is spot spot_is c.push_start_if_due.new.document
     c.in_ok-push_start_if_due.ensures.document
     c.args.place (view c.args.item.now) c.step_on.new.machine c.step_on.new.kept.items c.step_on.new.document
-    c.in_ok-found.found c.in-None.is refl c.in_ok-found.ensures.steps (c.if-is_behind.ensures ∙ ap (is_behind plan.selection) c.page-3.ensures)
+    c.in_ok-found.found c.in-None.is refl c.in_ok-found.ensures.steps
+    (c.if-is_behind.ensures ∙ ap (is_behind plan.selection) c.page-3.ensures)
 
 pub returns-in_ok-push_failure_end-in-Some-clause-rendered : goal.returns-in_ok-push_failure_end-in-Some-clause-rendered
 returns-in_ok-push_failure_end-in-Some-clause-rendered g c =
