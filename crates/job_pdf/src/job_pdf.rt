@@ -15,43 +15,16 @@ ghost use Rattle.job_pdf.specs.Telling.{told_failure};
 use crate::drawing::{finish_on, step_on};
 use crate::sheet::{Sheet, push_drawn_failure, push_start_if_due};
 use crate::telling::{told_failure, told_whole};
+use crate::wanted::WantedPages;
 use device_profile::{Geometry, Panel, Profile};
-use job_reports::PrinterGroup;
 use page_env::{Page, SheetPlace, cursor_on};
 use page_machine::{Machine, Start};
 use page_pdf::{Document, PageSheet};
 use pcl_items::{Item, LexFault, Place};
 use renderings::{Outcome, Renderer, render_job};
-use requests::Selection;
-use std::alloc::{AllocError, Allocator, Global};
-use std::marker::Model;
+use std::alloc::{AllocError, Allocator};
 use streams::{Error, Outlet, Source};
 use verdict::Failure;
-
-/// What is written of a job, and the names of the job and of the printer.
-#[derive(Drop)]
-pub struct WantedPages<'n, A: Allocator = Global> {
-    pub selection: Selection,
-    /// Each page with its outlines and its foot.
-    pub is_proof: bool,
-    pub job: &'n [u8],
-    pub printers: &'n PrinterGroup<'n, A>,
-}
-
-impl<'n, A: Allocator> Model for WantedPages<'n, A> {
-    ghost use Rattle.job_pdf.specs.Plan.{Plan};
-
-    ghost Value = { Plan };
-
-    ghost view = { λ wanted. record {
-      selection = wanted.selection;
-      is_proof = wanted.is_proof;
-      job = wanted.job.now;
-      group = wanted.printers.now;
-    } };
-}
-
-// ---- the job
 
 /// Executes the items on a machine that knows the panel, and writes what they mark.
 #[derive(Drop)]

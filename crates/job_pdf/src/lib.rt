@@ -5,5 +5,7 @@ mod drawing;
 mod job_pdf;
 mod sheet;
 mod telling;
+mod wanted;
 
-pub use job_pdf::{WantedPages, pdf_of};
+pub use job_pdf::pdf_of;
+pub use wanted::WantedPages;

@@ -6,7 +6,7 @@ ghost use Rattle.job_pdf.specs.Telling.{sentence, told_failure, told_whole, what
 ghost use Rattle.job_pdf.specs.Telling.{without_line_end};
 ghost use Rattle.verdict.specs.Failing.{failing};
 
-use crate::job_pdf::WantedPages;
+use crate::wanted::WantedPages;
 use job_reports::{Report, push_job_sentence, push_named_first};
 use preflight::Judgement;
 use requests::DrawnPages;
