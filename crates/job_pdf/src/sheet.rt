@@ -3,7 +3,8 @@ ghost use Rattle.std.specs.Prelude.{◌≡◌, ◌++◌, OnOk};
 ghost use Rattle.page_env.specs.Mark.{shape_of};
 ghost use Rattle.page_machine.specs.Event.{Ended, Marked};
 ghost use Rattle.page_pdf.specs.Document.{HasWritten};
-ghost use Rattle.job_pdf.specs.Sheet.{drawn_failure, event_written, start_if_due, started};
+ghost use Rattle.job_pdf.specs.Sheet.{drawn_failure, event_if_drawn, event_written};
+ghost use Rattle.job_pdf.specs.Sheet.{start_if_due, started};
 
 use page_env::{Mark, PageEnd, SheetPlace};
 use page_pdf::{Document, PageSheet};
@@ -34,6 +35,23 @@ pub(crate) fn push_drawn_mark<A: Allocator, B: Allocator + Copy>(
     document.push_mark(text, &sheet.page, mark)
 }
 
+/// Writes the end of a page, where it is written.
+fn push_end_if_drawn<A: Allocator, B: Allocator + Copy>(
+    text: &mut Vec<u8, A>,
+    sheet: &Sheet,
+    document: &mut Document<B>,
+    end: PageEnd,
+) -> Result<(), AllocError>
+    ensures { OnOk result (HasWritten (event_if_drawn sheet.now (Ended end) document.old)
+        text.old.items text.new.items document.new) }
+{
+    let is_drawn = sheet.selection.is_drawn(document.page());
+    if !is_drawn {
+        return Ok(());
+    }
+    document.end_page(text, &sheet.page, end)
+}
+
 /// Writes the end of a page, where it is written, and goes on to the next.
 pub(crate) fn push_drawn_end<A: Allocator, B: Allocator + Copy>(
     text: &mut Vec<u8, A>,
@@ -44,9 +62,7 @@ pub(crate) fn push_drawn_end<A: Allocator, B: Allocator + Copy>(
     ensures { OnOk result (HasWritten (event_written sheet.now (Ended end) document.old)
         text.old.items text.new.items document.new) }
 {
-    if sheet.selection.is_drawn(document.page()) {
-        document.end_page(text, &sheet.page, end)?;
-    }
+    push_end_if_drawn(text, sheet, document, end)?;
     document.pass_page();
     Ok(())
 }

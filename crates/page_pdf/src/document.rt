@@ -121,13 +121,14 @@ impl<A: Allocator + Copy> Document<A> {
 
     /// The number of the next object.
     pub(crate) fn next_object(&self) -> u64
-        ensures { result ≡ next_object self.now }
+        ensures value { result ≡ next_object self.now }
+        ensures few { result ≤ 2 ^ 63 + 4 }
     {
         5 + self.places.len() as u64
     }
 
     /// Counts what a text that was so long has more.
-    #[tactic(auto, using(crate::proofs::Counting::longer))]
+    #[tactic(auto, using(crate::proofs::Counting::longer, crate::proofs::Counting::no_shorter))]
     fn count<B: Allocator>(&mut self, before: usize, text: &Vec<u8, B>)
         requires longer { before ≤ vec_len text.now }
         ensures { self.new ≡ record self.old {
@@ -146,7 +147,7 @@ impl<A: Allocator + Copy> Document<A> {
     }
 
     /// Writes a text.
-    #[tactic(auto, using(crate::proofs::Counting::longer))]
+    #[tactic(auto, using(crate::proofs::Counting::longer, crate::proofs::Counting::no_shorter))]
     pub(crate) fn push_text<B: Allocator>(
         &mut self,
         text: &mut Vec<u8, B>,
@@ -162,7 +163,7 @@ impl<A: Allocator + Copy> Document<A> {
     }
 
     /// Writes an object of this number.
-    #[tactic(auto, using(crate::proofs::Counting::longer))]
+    #[tactic(auto, using(crate::proofs::Counting::longer, crate::proofs::Counting::no_shorter))]
     pub(crate) fn push_object<B: Allocator>(
         &mut self,
         text: &mut Vec<u8, B>,
@@ -195,7 +196,7 @@ impl<A: Allocator + Copy> Document<A> {
     // ---- a page
 
     /// Writes how what marks a page begins.
-    #[tactic(auto, using(crate::proofs::Counting::longer))]
+    #[tactic(auto, using(crate::proofs::Counting::longer, crate::proofs::Counting::no_shorter))]
     fn begin_marks<B: Allocator>(&mut self, text: &mut Vec<u8, B>) -> Result<(), AllocError>
         ensures { OnOk result (HasWritten
             (marks_begun (writes (content_start (next_object self.old)) (begins_object self.old)))
@@ -212,7 +213,7 @@ impl<A: Allocator + Copy> Document<A> {
     }
 
     /// Writes what stands before the marks of a page.
-    #[tactic(auto, using(crate::proofs::Counting::longer))]
+    #[tactic(auto, using(crate::proofs::Counting::longer, crate::proofs::Counting::no_shorter))]
     fn push_setting<B: Allocator>(
         &mut self,
         text: &mut Vec<u8, B>,
@@ -258,7 +259,7 @@ impl<A: Allocator + Copy> Document<A> {
     }
 
     /// Writes a mark on the page that is open.
-    #[tactic(auto, unfolding(crate::specs::Document::mark_written), using(crate::proofs::Counting::longer))]
+    #[tactic(auto, unfolding(crate::specs::Document::mark_written), using(crate::proofs::Counting::longer, crate::proofs::Counting::no_shorter))]
     pub fn push_mark<B: Allocator>(
         &mut self,
         text: &mut Vec<u8, B>,
@@ -283,7 +284,7 @@ impl<A: Allocator + Copy> Document<A> {
     }
 
     /// Writes what stands behind the marks of a page.
-    #[tactic(auto, using(crate::proofs::Counting::longer))]
+    #[tactic(auto, using(crate::proofs::Counting::longer, crate::proofs::Counting::no_shorter))]
     fn push_end_of_marks<B: Allocator>(
         &mut self,
         text: &mut Vec<u8, B>,
@@ -364,7 +365,7 @@ impl<A: Allocator + Copy> Document<A> {
     }
 
     /// Writes why a job fails.
-    #[tactic(auto, using(crate::proofs::Counting::longer))]
+    #[tactic(auto, using(crate::proofs::Counting::longer, crate::proofs::Counting::no_shorter))]
     fn push_why<B: Allocator>(
         &mut self,
         text: &mut Vec<u8, B>,

@@ -58,7 +58,7 @@ pub(crate) fn push_content_start<A: Allocator>(
     text: &mut Vec<u8, A>,
     number: u64,
 ) -> Result<(), AllocError>
-    requires { number ≤ 2 ^ 63 }
+    requires { number ≤ 2 ^ 63 + 4 }
     ensures { OnOk result (text.new.items ≡ text.old.items ++ content_start number) }
 {
     push_object_start(text, number)?;

@@ -1,6 +1,6 @@
 //! The program's command `pdf`: the pages of a job as a PDF document.
 #![tactic(auto)]
 
-mod pdf;
+mod command;
 
-pub use pdf::{PdfAsked, pdf};
+pub use command::{PdfAsked, pdf};

@@ -15,7 +15,7 @@ use Rattle.named_inputs.proofs.FleetFacts.{no_write_before}
 use Rattle.subcommands.proofs.JudgedFirst.{ends_by, judged_first}
 use Rattle.pdf_command.specs.Pdf.{plan_of}
 use Rattle.pdf_command.proofs.Leaving.{choice_refused, names_of, no_pdf, pdf_left}
-use Rattle.pdf_command.proofs.pdf.pdf.Goals as goal
+use Rattle.pdf_command.proofs.command.pdf.Goals as goal
 
 pub end_by-requires : goal.end_by-requires
 end_by-requires g c = sound_beside c.pdf_of-work.result _ c.requires.stdout
