@@ -1,17 +1,11 @@
 -- How much more a text has, and what loops over numbers have written.
-use Rattle.std.proofs.Common.{◌≡◌, ℕ, zero, suc, ◌+◌, ◌-◌, ◌≤◌, List, [], ◌∷◌, ◌++◌, length, ap, sym, ◌∙◌, arith, refl}
+use Rattle.std.proofs.Common.{◌≡◌, ℕ, zero, suc, ◌+◌, ◌-◌, List, [], ◌∷◌, ◌++◌, length, ap, sym, ◌∙◌, arith, refl}
 use Rattle.std.proofs.lemmas.List.{flat_map_more, length-append}
 use Rattle.std.specs.List.{flat_map, range_with_len}
 
 -- what stands behind a text is as long as what the text is longer
 pub longer : (old more new : List ℕ) → new ≡ old ++ more → length new - length old ≡ length more
 longer old more new is =
-    let e : length new ≡ length old + length more = ap length is ∙ length-append old more in
-    omega (arith, e)
-
--- and no shorter
-pub no_shorter : (old more new : List ℕ) → new ≡ old ++ more → length old ≤ length new
-no_shorter old more new is =
     let e : length new ≡ length old + length more = ap length is ∙ length-append old more in
     omega (arith, e)
 

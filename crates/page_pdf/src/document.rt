@@ -53,7 +53,7 @@ pub struct PageSheet {
 
 /// A document as it is written. Its counts stand still at 2^64 - 1.
 #[derive(Drop)]
-pub struct Document<A: Allocator = Global> {
+pub struct Document<A: Allocator + Copy = Global> {
     alloc: A,
     written: u64,
     /// How many bytes stood before what marks the page that is open.
@@ -65,7 +65,7 @@ pub struct Document<A: Allocator = Global> {
     places: Vec<u64, A>,
 }
 
-impl<A: Allocator> Model for Document<A> {
+impl<A: Allocator + Copy> Model for Document<A> {
     ghost use Rattle.page_pdf.specs.Document.{Pdf};
 
     ghost Value = { Pdf };
@@ -128,9 +128,8 @@ impl<A: Allocator + Copy> Document<A> {
     }
 
     /// Counts what a text that was so long has more.
-    #[tactic(auto, using(crate::proofs::Counting::longer, crate::proofs::Counting::no_shorter))]
+    #[tactic(auto, using(crate::proofs::Counting::longer))]
     fn count<B: Allocator>(&mut self, before: usize, text: &Vec<u8, B>)
-        requires longer { before ≤ vec_len text.now }
         ensures { self.new ≡ record self.old {
           written = capped (self.old.written + (vec_len text.now - before));
         } }
@@ -147,7 +146,7 @@ impl<A: Allocator + Copy> Document<A> {
     }
 
     /// Writes a text.
-    #[tactic(auto, using(crate::proofs::Counting::longer, crate::proofs::Counting::no_shorter))]
+    #[tactic(auto, using(crate::proofs::Counting::longer))]
     pub(crate) fn push_text<B: Allocator>(
         &mut self,
         text: &mut Vec<u8, B>,
@@ -163,7 +162,7 @@ impl<A: Allocator + Copy> Document<A> {
     }
 
     /// Writes an object of this number.
-    #[tactic(auto, using(crate::proofs::Counting::longer, crate::proofs::Counting::no_shorter))]
+    #[tactic(auto, using(crate::proofs::Counting::longer))]
     pub(crate) fn push_object<B: Allocator>(
         &mut self,
         text: &mut Vec<u8, B>,
@@ -196,7 +195,7 @@ impl<A: Allocator + Copy> Document<A> {
     // ---- a page
 
     /// Writes how what marks a page begins.
-    #[tactic(auto, using(crate::proofs::Counting::longer, crate::proofs::Counting::no_shorter))]
+    #[tactic(auto, using(crate::proofs::Counting::longer))]
     fn begin_marks<B: Allocator>(&mut self, text: &mut Vec<u8, B>) -> Result<(), AllocError>
         ensures { OnOk result (HasWritten
             (marks_begun (writes (content_start (next_object self.old)) (begins_object self.old)))
@@ -213,7 +212,7 @@ impl<A: Allocator + Copy> Document<A> {
     }
 
     /// Writes what stands before the marks of a page.
-    #[tactic(auto, using(crate::proofs::Counting::longer, crate::proofs::Counting::no_shorter))]
+    #[tactic(auto, using(crate::proofs::Counting::longer))]
     fn push_setting<B: Allocator>(
         &mut self,
         text: &mut Vec<u8, B>,
@@ -259,7 +258,7 @@ impl<A: Allocator + Copy> Document<A> {
     }
 
     /// Writes a mark on the page that is open.
-    #[tactic(auto, unfolding(crate::specs::Document::mark_written), using(crate::proofs::Counting::longer, crate::proofs::Counting::no_shorter))]
+    #[tactic(auto, unfolding(crate::specs::Document::mark_written), using(crate::proofs::Counting::longer))]
     pub fn push_mark<B: Allocator>(
         &mut self,
         text: &mut Vec<u8, B>,
@@ -284,7 +283,7 @@ impl<A: Allocator + Copy> Document<A> {
     }
 
     /// Writes what stands behind the marks of a page.
-    #[tactic(auto, using(crate::proofs::Counting::longer, crate::proofs::Counting::no_shorter))]
+    #[tactic(auto, using(crate::proofs::Counting::longer))]
     fn push_end_of_marks<B: Allocator>(
         &mut self,
         text: &mut Vec<u8, B>,
@@ -365,7 +364,7 @@ impl<A: Allocator + Copy> Document<A> {
     }
 
     /// Writes why a job fails.
-    #[tactic(auto, using(crate::proofs::Counting::longer, crate::proofs::Counting::no_shorter))]
+    #[tactic(auto, using(crate::proofs::Counting::longer))]
     fn push_why<B: Allocator>(
         &mut self,
         text: &mut Vec<u8, B>,
