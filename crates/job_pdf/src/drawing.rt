@@ -31,9 +31,10 @@ impl<W: Outlet, A: Allocator, B: Allocator + Copy> DocumentText<'_, W, A, B> {
             self.old.kept.now.items self.new.kept.now.items result }
         ensures status { (W.state self.new.outlet.now).failed ≡ is_err_of_write result }
         ensures same { (self.new.outlet.ghost_name ≡ self.old.outlet.ghost_name)
-            × (self.new.kept.ghost_name ≡ self.old.kept.ghost_name) }
+            × (self.new.kept.ghost_name ≡ self.old.kept.ghost_name)
+            × (self.new.document.ghost_name ≡ self.old.document.ghost_name) }
         ensures sheet { self.new.sheet ≡ self.old.sheet }
-        ensures document { self.new.document ≡ self.old.document }
+        ensures document { self.new.document.now ≡ self.old.document.now }
     {
         if self.outlet.has_failed() {
             return Err(Error::Write);

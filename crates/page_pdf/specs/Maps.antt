@@ -13,7 +13,7 @@ character_number repertoire code = unwrap_or (character_in (Some repertoire) cod
 
 -- by four digits
 unfoldable pub character_digits : ℕ → List ℕ
-character_digits n = 60 ∷ [] ++ hex_byte (n / 256) ++ hex_byte (n % 256) ++ 62 ∷ []
+character_digits n = 60 ∷ hex_byte (n / 256) ++ hex_byte (n % 256) ++ 62 ∷ []
 
 abbrev pub map_entry : Repertoire → ℕ → List ℕ
 map_entry repertoire code = character_digits (character_number repertoire code)

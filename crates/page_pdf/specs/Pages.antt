@@ -58,9 +58,9 @@ failure_text x y = page_part parts.Failure ++ length_figure x ++ length_figure y
 abbrev pub sentence_size : Geometry → (count : ℕ) → ℤ
 sentence_size page count = letter_size page.page_width (count + 3)
 
--- a sixth of an inch above the foot of the page
+-- a third of an inch above the foot of the page
 abbrev pub above_foot : Geometry → ℤ
-above_foot page = page.page_height -ℤ pos 6_096_000_000
+above_foot page = page.page_height -ℤ pos 12_192_000_000
 
 -- letters of this size, and where the first stands: as far from the edge as they are high
 unfoldable pub sentence_place : Geometry → (size : ℤ) → List ℕ

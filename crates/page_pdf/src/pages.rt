@@ -26,8 +26,8 @@ use page_picture::{letter_size, printable_box};
 use shown_bytes::push_number;
 use std::alloc::{AllocError, Allocator};
 
-/// How far above the foot of a page a sentence stands: a sixth of an inch, in ticks.
-const RISE: i64 = 6_096_000_000;
+/// How far above the foot of a page a sentence stands: a third of an inch, in ticks.
+const RISE: i64 = 12_192_000_000;
 
 // ---- before the marks
 
@@ -153,7 +153,7 @@ fn sentence_size(page: &Geometry, count: usize) -> i64
     letter_size(page.page_width, count + 3)
 }
 
-/// A sixth of an inch above the foot of a page, in ticks.
+/// A third of an inch above the foot of a page, in ticks.
 fn above_foot(page: &Geometry) -> i64
     ensures { result ≡ above_foot page.now }
 {
