@@ -2,7 +2,8 @@
 ghost use Rattle.std.specs.Prelude.{◌≡◌, false, IsFalse};
 
 use device_profile::Sample;
-use requests::{PanelSetting, Status, tell};
+use pdf_command::{PdfAsked, pdf};
+use requests::{DrawnPages, PanelSetting, Selection, Status, tell};
 use std::alloc::{Allocator, Global};
 use std::process::Abort;
 use streams::{Create, Open, Outlet, Source};
@@ -25,6 +26,8 @@ enum Command {
     Notes,
     Plain,
     Pin,
+    /// With the outlines and the foot of each page.
+    Pdf,
 }
 
 /// Texts of printers.
@@ -60,6 +63,21 @@ fn status_of<H: Allocator + Copy, J: Open, W: Create, O: Outlet, E: Outlet>(
                 choices: &[],
             };
             pin(heap, job, &mut texts, &setting, out, stdout, stderr)
+        }
+        Command::Pdf => {
+            let asked = PdfAsked {
+                job: "job.pcl",
+                setting: PanelSetting {
+                    profile: "b",
+                    choices: &[],
+                },
+                selection: Selection {
+                    pages: DrawnPages::All,
+                    has_boxes: false,
+                },
+                is_proof: true,
+            };
+            pdf(heap, job, &mut texts, &asked, out, stdout, stderr)
         }
     };
     tell(status, stderr);
@@ -235,6 +253,7 @@ const COMMANDS: &[Command] = &[
     Command::Notes,
     Command::Plain,
     Command::Pin,
+    Command::Pdf,
 ];
 
 /// How many requests for memory a subcommand makes, each of which was refused in turn: it then ends
