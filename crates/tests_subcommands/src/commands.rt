@@ -35,6 +35,22 @@ fn texts() -> [Named<'static>; 2] {
     [("a", Sample::A.text()), ("b", Sample::B.text())]
 }
 
+/// All pages for sample B, each with its outlines and its foot.
+fn proof() -> PdfAsked<'static> {
+    PdfAsked {
+        job: "job.pcl",
+        setting: PanelSetting {
+            profile: "b",
+            choices: &[],
+        },
+        selection: Selection {
+            pages: DrawnPages::All,
+            has_boxes: false,
+        },
+        is_proof: true,
+    }
+}
+
 /// Runs a subcommand, and tells how it ended.
 fn status_of<H: Allocator + Copy, J: Open, W: Create, O: Outlet, E: Outlet>(
     command: Command,
@@ -64,21 +80,7 @@ fn status_of<H: Allocator + Copy, J: Open, W: Create, O: Outlet, E: Outlet>(
             };
             pin(heap, job, &mut texts, &setting, out, stdout, stderr)
         }
-        Command::Pdf => {
-            let asked = PdfAsked {
-                job: "job.pcl",
-                setting: PanelSetting {
-                    profile: "b",
-                    choices: &[],
-                },
-                selection: Selection {
-                    pages: DrawnPages::All,
-                    has_boxes: false,
-                },
-                is_proof: true,
-            };
-            pdf(heap, job, &mut texts, &asked, out, stdout, stderr)
-        }
+        Command::Pdf => pdf(heap, job, &mut texts, &proof(), out, stdout, stderr),
     };
     tell(status, stderr);
     status
