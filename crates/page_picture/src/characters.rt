@@ -17,7 +17,7 @@ use device_profile::{NamedSet, SymbolSet};
 
 /// The characters of a symbol set.
 #[derive(Clone, Copy)]
-pub(crate) enum Repertoire {
+pub enum Repertoire {
     Ascii,
     Pc8,
     Pc850,
@@ -69,7 +69,7 @@ pub(crate) const ROMAN8_FROM_160: [u16; 96] = [
 ];
 
 /// The characters of Windows Latin 1 from 128 to 159; 0 where a code has none.
-pub(crate) const WINDOWS_FROM_128: [u16; 32] = [
+pub const WINDOWS_FROM_128: [u16; 32] = [
     8364, 0, 8218, 402, 8222, 8230, 8224, 8225, 710, 8240, 352, 8249, 338, 0, 381, 0, 0, 8216,
     8217, 8220, 8221, 8226, 8211, 8212, 732, 8482, 353, 8250, 339, 0, 382, 376,
 ];
@@ -91,7 +91,7 @@ fn repertoire_named(named: NamedSet) -> Option<Repertoire>
 
 /// The characters of a symbol set, where they are known.
 #[tactic(auto, unfolding(crate::specs::Characters::repertoire_of))]
-fn repertoire_of(set: SymbolSet) -> Option<Repertoire>
+pub fn repertoire_of(set: SymbolSet) -> Option<Repertoire>
     ensures { result ≡ repertoire_of set }
 {
     repertoire_named(NamedSet::of(set)?)
@@ -171,7 +171,7 @@ fn other_character(repertoire: Repertoire, code: u8) -> Option<u16>
 }
 
 /// What a code stands for in a symbol set, where it is known.
-fn character_in(repertoire: Option<Repertoire>, code: u8) -> Option<u16>
+pub fn character_in(repertoire: Option<Repertoire>, code: u8) -> Option<u16>
     ensures { result ≡ character_in repertoire code }
 {
     match repertoire {
@@ -183,7 +183,7 @@ fn character_in(repertoire: Option<Repertoire>, code: u8) -> Option<u16>
 
 /// What a code of a symbol set stands for, where it is known.
 #[tactic(auto, unfolding(crate::specs::Characters::character_of))]
-pub(crate) fn character_of(set: SymbolSet, code: u8) -> Option<u16>
+pub fn character_of(set: SymbolSet, code: u8) -> Option<u16>
     ensures { result ≡ character_of set code }
 {
     character_in(repertoire_of(set), code)

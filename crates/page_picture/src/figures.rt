@@ -21,7 +21,7 @@ const TICKS_PER_MILLIONTH_INCH: u64 = 36_576;
 // ---- units
 
 /// How many hundredths of a unit so many ticks are, rounded down.
-pub(crate) fn hundredths(ticks: i64) -> i64
+pub fn hundredths(ticks: i64) -> i64
     ensures value { result ≡ hundredths ticks }
     ensures small { unsigned_abs result ≤ 2 ^ 48 }
 {
@@ -33,17 +33,14 @@ pub(crate) fn hundredths(ticks: i64) -> i64
 }
 
 /// Appends so many hundredths of a unit.
-pub(crate) fn push_units<A: Allocator>(text: &mut Vec<u8, A>, n: i64) -> Result<(), AllocError>
+pub fn push_units<A: Allocator>(text: &mut Vec<u8, A>, n: i64) -> Result<(), AllocError>
     ensures { OnOk result (text.new.items ≡ text.old.items ++ units n) }
 {
     push_with_signed_hundredths(text, n)
 }
 
 /// Appends so many ticks in units.
-pub(crate) fn push_length_units<A: Allocator>(
-    text: &mut Vec<u8, A>,
-    ticks: i64,
-) -> Result<(), AllocError>
+pub fn push_length_units<A: Allocator>(text: &mut Vec<u8, A>, ticks: i64) -> Result<(), AllocError>
     ensures { OnOk result (text.new.items ≡ text.old.items ++ length_units ticks) }
 {
     push_units(text, hundredths(ticks))

@@ -16,10 +16,12 @@ mod sheet_parts;
 mod texts;
 mod titles;
 
+pub use characters::{Repertoire, WINDOWS_FROM_128, character_in, character_of, repertoire_of};
 pub use failure::{Outline, push_limit, push_unmade, push_veil};
 pub use failure_parts::Limit;
-pub use marks::push_mark;
+pub use figures::{hundredths, push_length_units, push_units};
+pub use marks::{is_bold, is_italic, push_mark};
 pub use sheet::{
-    push_document_end, push_document_start, push_failure, push_foot, push_head, push_page_number,
-    push_sentence,
+    letter_size, printable_box, push_document_end, push_document_start, push_failure, push_foot,
+    push_head, push_page_number, push_sentence,
 };

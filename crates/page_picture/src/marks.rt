@@ -203,14 +203,14 @@ fn push_text_attributes<A: Allocator>(
 }
 
 /// Whether a stroke weight is semi bold or bolder.
-fn is_bold(weight: i32) -> bool
+pub fn is_bold(weight: i32) -> bool
     ensures { result ≡ is_bold weight }
 {
     weight >= 10_000
 }
 
 /// Whether a style has an italic posture, which is what four leaves over of it.
-fn is_italic(style: u32) -> bool
+pub fn is_italic(style: u32) -> bool
     ensures { result ≡ is_italic style }
 {
     style / 10_000 % 4 > 0

@@ -218,7 +218,8 @@ fn push_logical<A: Allocator>(text: &mut Vec<u8, A>, page: &Geometry) -> Result<
     text.extend_from_slice(SheetPart::LogicalEnd.bytes())
 }
 
-fn printable_box(page: &Geometry) -> Bounds
+/// The printable area as a box.
+pub fn printable_box(page: &Geometry) -> Bounds
     ensures { result ≡ printable_box page.now }
 {
     Bounds {
@@ -252,7 +253,7 @@ pub fn push_failure<A: Allocator>(text: &mut Vec<u8, A>, x: i64, y: i64) -> Resu
 }
 
 /// How large the letters of a sentence of so many are, in hundredths of a unit, to go into a width.
-fn letter_size(width: Length, count: usize) -> i64
+pub fn letter_size(width: Length, count: usize) -> i64
     ensures { result ≡ letter_size width count }
 {
     let room = hundredths(width.ticks()).unsigned_abs() * 5;

@@ -1,0 +1,3 @@
+mod Led
+mod Drawings
+mod Tellings
