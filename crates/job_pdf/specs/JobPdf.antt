@@ -15,7 +15,7 @@ use Rattle.page_machine.specs.Job.{with_macros}
 use Rattle.page_pdf.specs.Document.{Pdf, Written, no_pdf}
 use Rattle.renderings.specs.declared.outcome.Outcome.{Outcome}
 use Rattle.renderings.specs.declared.outcome.Outcome.TheVariants.{Done as AllDone}
-use Rattle.renderings.specs.Due.{Rendering}
+use Rattle.renderings.specs.Expected.{Rendering}
 use Rattle.renderings.specs.Outcomes.{fails_with}
 use Rattle.requests.specs.Selection.{is_behind}
 use Rattle.verdict.specs.declared.failure.Failure.{Failure}

@@ -5,7 +5,7 @@ ghost use Rattle.page_env.specs.Places.{cursor_x, cursor_y, geometry_of, origin_
 ghost use Rattle.page_env.specs.Settings.{state_at};
 ghost use Rattle.renderings.specs.Carriers.PageRendering.{any_panel};
 ghost use Rattle.renderings.specs.Carriers.Rests.{faults_matter};
-ghost use Rattle.renderings.specs.Due.{Renders};
+ghost use Rattle.renderings.specs.Expected.{Renders};
 ghost use Rattle.job_pdf.specs.Carriers.Rest.{drawn_from};
 ghost use Rattle.job_pdf.specs.JobPdf.{failed_end, pdf_rendering, whole_end};
 ghost use Rattle.job_pdf.specs.Plan.{printer_name};

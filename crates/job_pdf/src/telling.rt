@@ -40,7 +40,7 @@ fn sentence_line<A: Allocator + Copy>(
         job: wanted.job,
         answer: Ok(Judgement {
             verdict: failure.verdict(),
-            culprit: None,
+            failing_item: None,
             page: Some(page),
             cursor: None,
             font: None,

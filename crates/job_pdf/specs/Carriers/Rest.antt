@@ -5,7 +5,7 @@ use Rattle.page_env.specs.Settings.{settings_at, state_at}
 use Rattle.page_machine.specs.MachineState.{MachineState}
 use Rattle.page_pdf.specs.Document.{Pdf}
 use Rattle.renderings.specs.Carriers.PageRendering.{any_panel}
-use Rattle.renderings.specs.Due.{Rendering}
+use Rattle.renderings.specs.Expected.{Rendering}
 use Rattle.job_pdf.specs.JobPdf.{Drawing, fault_behind, reading_drawing, started_behind, then_draws}
 use Rattle.job_pdf.specs.Plan.{Plan}
 use Rattle.job_pdf.specs.Sheet.{start_if_due, started}

@@ -1,5 +1,5 @@
 use Rattle.std.proofs.Common.{subst}
-use Rattle.renderings.specs.Due.{Renders}
+use Rattle.renderings.specs.Expected.{Renders}
 use Rattle.job_pdf.proofs.Drawings.{drawing_start}
 use Rattle.job_pdf.proofs.job_pdf.pdf_of.Goals as goal
 

@@ -2,7 +2,7 @@ use Rattle.std.proofs.Common.{◌≡◌, ◌||◌, ◌∙◌, ℕ, List, [], ◌
 use Rattle.std.proofs.Math.Bool.{or-false}
 use Rattle.streams.specs.Outlet.{OutletState}
 use Rattle.renderings.specs.Carriers.Rests.{faults_matter}
-use Rattle.renderings.specs.Due.{Renders}
+use Rattle.renderings.specs.Expected.{Renders}
 use Rattle.job_pdf.specs.JobPdf.{pdf_rendering}
 use Rattle.job_reports.specs.Groups.{Groups}
 use Rattle.picture_command.specs.Picture.{IsNamedBy}
