@@ -138,7 +138,7 @@ module _ {W A B : Type 0} (state : W → OutletState) where
         DrawsFront old.sheet (run any_panel) (state old.outlet.now) (state new.outlet.now) old.kept.now.items
         old.document.now
     draws_refused refused =
-        let took = refused.before in
+        let took = refused.took in
         let led = led_all old refused.mid took.events working took.leads in
         record {
           events = took.events ++ refused.event ∷ [];

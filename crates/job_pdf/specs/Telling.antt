@@ -24,7 +24,7 @@ abbrev pub without_line_end : List ℕ → List ℕ
 without_line_end line = if get_or line (length line - 1) 0 == 10 then take (length line - 1) line else line
 
 -- that the job fails so on the page of this number
-abbrev pub told_failure : Plan → (page : ℕ) → Failure → List ℕ
+unfoldable pub told_failure : Plan → (page : ℕ) → Failure → List ℕ
 told_failure plan page failure =
     without_line_end (sentence plan.job plan.group (fails_at (Some page) None) (failing failure))
 

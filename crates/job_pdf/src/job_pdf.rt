@@ -8,7 +8,7 @@ ghost use Rattle.renderings.specs.Carriers.Rests.{faults_matter};
 ghost use Rattle.renderings.specs.Expected.{Renders};
 ghost use Rattle.job_pdf.specs.Carriers.Rest.{drawn_from};
 ghost use Rattle.job_pdf.specs.JobPdf.{failed_end, pdf_rendering, whole_end};
-ghost use Rattle.job_pdf.specs.Plan.{printer_name};
+ghost use Rattle.job_pdf.specs.Plan.{plan_of};
 ghost use Rattle.job_pdf.specs.Sheet.{drawn_failure, end_text, sheet_of};
 ghost use Rattle.job_pdf.specs.Telling.{told_failure};
 
@@ -51,15 +51,14 @@ fn sheet_of<P: Allocator, B: Allocator>(
     page: &Page,
     wanted: &WantedPages<'_, B>,
 ) -> Sheet
-    ensures { result ≡ sheet_of wanted.now profile.now (state_at any_panel page.now) }
+    ensures { result ≡ sheet_of (plan_of wanted.now) profile.now (state_at any_panel page.now) }
 {
-    let page = PageSheet {
-        paper: paper_of(profile, page),
-        is_proof: wanted.is_proof,
-    };
     Sheet {
         selection: wanted.selection,
-        page,
+        page: PageSheet {
+            paper: paper_of(profile, page),
+            is_proof: wanted.is_proof,
+        },
     }
 }
 
@@ -79,7 +78,7 @@ fn push_end_text<A: Allocator, B: Allocator + Copy>(
     sentence: &[u8],
 ) -> Result<(), AllocError>
     ensures { OnOk result (text.new.items ≡ text.old.items
-        ++ end_text wanted.now sentence.now document.old) }
+        ++ end_text (plan_of wanted.now) sentence.now document.old) }
 {
     document.push_end(text, wanted.job, wanted.printers.first_name(), sentence)
 }
@@ -91,7 +90,8 @@ fn push_whole_end<A: Allocator, B: Allocator + Copy>(
     wanted: &WantedPages<'_, B>,
     document: &mut Document<B>,
 ) -> Result<(), AllocError>
-    ensures { OnOk result (text.new.items ≡ text.old.items ++ whole_end wanted.now document.old) }
+    ensures { OnOk result
+        (text.new.items ≡ text.old.items ++ whole_end (plan_of wanted.now) document.old) }
 {
     let told = told_whole(alloc, wanted)?;
     push_end_text(text, wanted, document, told.as_slice())
@@ -108,9 +108,10 @@ fn push_failure_end<A: Allocator, B: Allocator + Copy>(
     failure: Failure,
 ) -> Result<(), AllocError>
     ensures { OnOk result (text.new.items ≡ text.old.items
-        ++ failed_end wanted.now (told_failure wanted.now document.old.page failure)
+        ++ failed_end (plan_of wanted.now)
+        (told_failure (plan_of wanted.now) document.old.page failure)
         (drawn_failure sheet.now (record { x = spot.x; y = spot.y })
-        (told_failure wanted.now document.old.page failure) document.old)) }
+        (told_failure (plan_of wanted.now) document.old.page failure) document.old)) }
 {
     let told = told_failure(alloc, wanted, document.page(), failure)?;
     push_drawn_failure(text, sheet, document, spot, told.as_slice())?;
@@ -118,7 +119,8 @@ fn push_failure_end<A: Allocator, B: Allocator + Copy>(
 }
 
 impl<P: Allocator, B: Allocator + Copy> Renderer for JobPdf<'_, '_, P, B> {
-    ghost rendering = { λ job. drawn_from job.wanted.now job.machine job.document job.is_started };
+    ghost rendering = { λ job. drawn_from (plan_of job.wanted.now) job.machine job.document
+        job.is_started };
 
     ghost is_in = { λ job mode. (job.machine.stopped ≡ false) × (job.machine.mode ≡ mode) };
 
@@ -198,7 +200,7 @@ impl<P: Allocator, B: Allocator + Copy> Renderer for JobPdf<'_, '_, P, B> {
     ghost adds_at_fault = { λ _ place cause. refl };
 
     ghost rest_matters = { λ job over. faults_matter
-        (drawn_from job.wanted.now job.machine job.document job.is_started)
+        (drawn_from (plan_of job.wanted.now) job.machine job.document job.is_started)
         (λ place. refl) over };
 }
 
@@ -220,7 +222,7 @@ pub fn pdf_of<S: Source, W: Outlet, A: Allocator + Copy, P: Allocator>(
     requires reading { IsFalse (S.state reader.old).failed }
     requires writing { IsFalse (W.state writer.old).failed }
     requires allowed { IsAllowed profile.now panel.now }
-    ensures { Renders (pdf_rendering profile.now panel.now wanted.now)
+    ensures { Renders (pdf_rendering profile.now panel.now (plan_of wanted.now))
         (S.state reader.old) (S.state reader.new) (W.state writer.old) (W.state writer.new) result }
 {
     let mut job = JobPdf {

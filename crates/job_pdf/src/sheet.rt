@@ -29,10 +29,10 @@ pub(crate) fn push_drawn_mark<A: Allocator, B: Allocator + Copy>(
         (HasWritten (event_written sheet.now (Marked (shape_of mark.now)) document.old)
         text.old.items text.new.items document.new) }
 {
-    if !sheet.selection.is_drawn(document.page()) {
-        return Ok(());
+    if sheet.selection.is_drawn(document.page()) {
+        return document.push_mark(text, &sheet.page, mark);
     }
-    document.push_mark(text, &sheet.page, mark)
+    Ok(())
 }
 
 /// Writes the end of a page, where it is written.
@@ -46,10 +46,10 @@ fn push_end_if_drawn<A: Allocator, B: Allocator + Copy>(
         text.old.items text.new.items document.new) }
 {
     let is_drawn = sheet.selection.is_drawn(document.page());
-    if !is_drawn {
-        return Ok(());
+    if is_drawn {
+        return document.end_page(text, &sheet.page, end);
     }
-    document.end_page(text, &sheet.page, end)
+    Ok(())
 }
 
 /// Writes the end of a page, where it is written, and goes on to the next.
@@ -79,10 +79,10 @@ pub(crate) fn push_drawn_failure<A: Allocator, B: Allocator + Copy>(
         (drawn_failure sheet.now (record { x = spot.x; y = spot.y }) sentence.now document.old)
         text.old.items text.new.items document.new) }
 {
-    if !sheet.selection.is_drawn(document.page()) {
-        return Ok(());
+    if sheet.selection.is_drawn(document.page()) {
+        return document.fail_page(text, &sheet.page, spot, sentence);
     }
-    document.fail_page(text, &sheet.page, spot.x, spot.y, sentence)
+    Ok(())
 }
 
 /// Writes what stands before the pages, unless it is written.

@@ -1,7 +1,7 @@
 //! What the document says of the job.
 ghost use Rattle.std.specs.Prelude.{◌≡◌, ◌++◌, IfOk, None, OnOk, Some};
 ghost use Rattle.job_reports.specs.JobSentences.{fails_at};
-ghost use Rattle.job_pdf.specs.Plan.{printer_name};
+ghost use Rattle.job_pdf.specs.Plan.{plan_of};
 ghost use Rattle.job_pdf.specs.Telling.{sentence, told_failure, told_whole, what_prints};
 ghost use Rattle.job_pdf.specs.Telling.{without_line_end};
 ghost use Rattle.verdict.specs.Failing.{failing};
@@ -31,7 +31,7 @@ fn sentence_line<A: Allocator + Copy>(
     page: u64,
     failure: Failure,
 ) -> Result<Vec<u8, A>, AllocError>
-    ensures { IfOk result (λ line. line.items ≡ sentence wanted.now.job wanted.now.group
+    ensures { IfOk result (λ line. line.items ≡ sentence wanted.now.job.now wanted.now.printers.now
         (fails_at (Some page) None) (failing failure)) }
 {
     let mut line = Vec::new(alloc);
@@ -58,7 +58,7 @@ pub(crate) fn told_failure<A: Allocator + Copy>(
     page: u64,
     failure: Failure,
 ) -> Result<Vec<u8, A>, AllocError>
-    ensures { IfOk result (λ told. told.items ≡ told_failure wanted.now page failure) }
+    ensures { IfOk result (λ told. told.items ≡ told_failure (plan_of wanted.now) page failure) }
 {
     let line = sentence_line(alloc, wanted, page, failure)?;
     let mut told = Vec::new(alloc);
@@ -83,12 +83,11 @@ fn push_what_prints<A: Allocator>(
 }
 
 /// That these pages print.
-#[tactic(auto, unfolding(crate::specs::Telling::told_whole))]
 pub(crate) fn told_whole<A: Allocator + Copy>(
     alloc: A,
     wanted: &WantedPages<'_, A>,
 ) -> Result<Vec<u8, A>, AllocError>
-    ensures { IfOk result (λ told. told.items ≡ told_whole wanted.now) }
+    ensures { IfOk result (λ told. told.items ≡ told_whole (plan_of wanted.now)) }
 {
     let mut told = Vec::new(alloc);
     push_named_first(alloc, &mut told, wanted.job)?;

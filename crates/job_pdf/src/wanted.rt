@@ -3,7 +3,6 @@
 use job_reports::PrinterGroup;
 use requests::Selection;
 use std::alloc::{Allocator, Global};
-use std::marker::Model;
 
 /// What is written of a job, and the names of the job and of the printer.
 #[derive(Drop)]
@@ -13,17 +12,4 @@ pub struct WantedPages<'n, A: Allocator = Global> {
     pub is_proof: bool,
     pub job: &'n [u8],
     pub printers: &'n PrinterGroup<'n, A>,
-}
-
-impl<'n, A: Allocator> Model for WantedPages<'n, A> {
-    ghost use Rattle.job_pdf.specs.Plan.{Plan};
-
-    ghost Value = { Plan };
-
-    ghost view = { λ wanted. record {
-      selection = wanted.selection;
-      is_proof = wanted.is_proof;
-      job = wanted.job.now;
-      group = wanted.printers.now;
-    } };
 }

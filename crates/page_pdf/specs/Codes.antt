@@ -1,35 +1,47 @@
 -- Which letters of the faces a character is.
-use Rattle.std.specs.Prelude.{ℕ, ◌+◌, ◌==◌, ◌&&◌, ◌||◌, nat_le, Bool, if◌then◌else◌, List, codes, Option, None, Some}
-use Rattle.std.specs.Prelude.{option_map}
+use Rattle.std.specs.Prelude.{ℕ, ◌+◌, ◌==◌, ◌&&◌, nat_le, nat_lt, Bool, if◌then◌else◌, List, codes, Option}
+use Rattle.std.specs.Prelude.{None, Some}
 use Rattle.std.specs.List.{position}
+use Rattle.std.specs.Option.{option_and_then}
 use Rattle.device_profile.specs.declared.font.FontRequest.{FontRequest}
 use Rattle.page_picture.specs.declared.characters.Repertoire.{Repertoire}
 use Rattle.page_picture.specs.declared.characters.Repertoire.TheVariants.{Ascii, Pc8, Pc850, Roman8, Latin1, Windows}
 use Rattle.page_picture.specs.declared.characters.TheConstants.{WINDOWS_FROM_128}
 use Rattle.page_picture.specs.Marks.{is_bold, is_italic}
 
--- characters that have their own numbers as codes in Windows Latin 1, which is how the faces are coded
-abbrev pub is_its_own : ℕ → Bool
-is_its_own character = (nat_le 32 character && nat_le character 126) || (nat_le 160 character && nat_le character 255)
-
 -- where a character stands in a table
 abbrev pub place_of : List ℕ → ℕ → Option ℕ
 place_of table character = position (λ entry. entry == character) table
 
--- the code of a character, where the faces have it
+-- the code of what stands at a place of the table of Windows Latin 1, which has 32
+abbrev pub code_at : ℕ → Option ℕ
+code_at place = if nat_lt place 32 then Some (128 + place) else None
+
+-- the code of a character that stands there; the faces are coded so
+unfoldable pub windows_letter : ℕ → Option ℕ
+windows_letter character = option_and_then code_at (place_of WINDOWS_FROM_128 character)
+
+-- the code of a character, where the faces have it: most have their own numbers
 unfoldable pub letter_of : ℕ → Option ℕ
 letter_of character =
-    if is_its_own character then Some character
-    else option_map (λ place. 128 + place) (place_of WINDOWS_FROM_128 character)
+    if nat_le 32 character && nat_le character 126 then Some character
+    else (if nat_le 160 character && nat_le character 255 then Some character else windows_letter character)
+
+abbrev pub upright_or_italic : (upright italic : List ℕ) → (is_italic : Bool) → List ℕ
+upright_or_italic upright italic is_italic = if is_italic then italic else upright
 
 -- the face by stroke weight and posture
 unfoldable pub face_name : FontRequest → List ℕ
 face_name request =
-    if is_bold request.weight then (if is_italic request.style then codes "F4" else codes "F2")
-    else (if is_italic request.style then codes "F3" else codes "F1")
+    if is_bold request.weight then upright_or_italic (codes "F2") (codes "F4") (is_italic request.style)
+    else upright_or_italic (codes "F1") (codes "F3") (is_italic request.style)
 
 -- the face of characters that do not show, by their symbol set: the others have none that the faces have not
+abbrev pub hidden_name_of : Repertoire → List ℕ
+hidden_name_of Pc8 = codes "G1"
+hidden_name_of Pc850 = codes "G2"
+hidden_name_of _ = codes "G3"
+
 unfoldable pub hidden_name : Option Repertoire → List ℕ
-hidden_name (Some Pc8) = codes "G1"
-hidden_name (Some Pc850) = codes "G2"
-hidden_name _ = codes "G3"
+hidden_name None = codes "G3"
+hidden_name (Some repertoire) = hidden_name_of repertoire

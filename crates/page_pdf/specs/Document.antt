@@ -1,6 +1,6 @@
 -- A document as it is written: what a step adds, and where its objects stand.
 use Rattle.std.specs.Prelude.{◌≡◌, ℕ, ℤ, ◌+◌, ◌-◌, ◌/◌, ◌^◌, min, Bool, true, false, if◌then◌else◌, List, [], ◌∷◌, ◌++◌}
-use Rattle.std.specs.Prelude.{codes, decimal, drop, length, take}
+use Rattle.std.specs.Prelude.{codes, decimal, length}
 use Rattle.page_env.specs.declared.mark.PageEnd.{PageEnd}
 use Rattle.page_env.specs.Mark.{Shape}
 use Rattle.page_picture.specs.declared.characters.Repertoire.{Repertoire}
@@ -14,7 +14,7 @@ use Rattle.page_pdf.specs.Marks.{mark_text}
 use Rattle.page_pdf.specs.Objects.{catalog_body, content_end, content_start, end_words, failing_words, information_body}
 use Rattle.page_pdf.specs.Objects.{label_body, object_text, page_body, pages_body, verdict_body}
 use Rattle.page_pdf.specs.Pages.{failed_text, page_end, page_start}
-use Rattle.page_pdf.specs.Table.{table_text}
+use Rattle.page_pdf.specs.Table.{places_table}
 
 -- ---- what is known of it
 
@@ -115,14 +115,19 @@ start_written =
 
 -- ---- a page
 
--- what marks it begins
-abbrev pub marks_begun : Written → Written
-marks_begun step = record step { pdf = record step.pdf { begun = step.pdf.written; is_open = true } }
+-- the object that marks it begins
+abbrev pub content_begun : Pdf → Written
+content_begun pdf = writes (content_start (next_object pdf)) (begins_object pdf)
+
+-- what marks it begins here
+abbrev pub opens_page : Pdf → Pdf
+opens_page pdf = record pdf { begun = pdf.written; is_open = true }
+
+abbrev pub marks_begun : Pdf → Written
+marks_begun pdf = record { text = (content_begun pdf).text; pdf = opens_page (content_begun pdf).pdf }
 
 unfoldable pub page_begun : PageSheet → Pdf → Written
-page_begun sheet pdf =
-    and_then (marks_begun (writes (content_start (next_object pdf)) (begins_object pdf)))
-    (writes (page_start sheet.paper sheet.is_proof))
+page_begun sheet pdf = and_then (marks_begun pdf) (writes (page_start sheet.paper sheet.is_proof))
 
 -- unless it has begun
 abbrev pub page_due : PageSheet → Pdf → Written
@@ -140,11 +145,16 @@ marks_length pdf = pdf.written - pdf.begun
 unfoldable pub marks_ended : Pdf → Written
 marks_ended pdf = and_then (writes content_end pdf) (next_of (decimal (marks_length pdf)))
 
--- the page, whose marks stand two objects before it, and its label
+-- the page, whose marks stand two objects before it
+unfoldable pub sheet_told : PageSheet → Pdf → Written
+sheet_told sheet pdf = next_of (page_body sheet.paper (next_object pdf - 2)) pdf
+
+-- its label, with these words
+unfoldable pub label_told : (words : List ℕ) → Pdf → Written
+label_told words pdf = next_of (label_body pdf.page words) pdf
+
 unfoldable pub page_told : PageSheet → (words : List ℕ) → Pdf → Written
-page_told sheet words pdf =
-    and_then (next_of (page_body sheet.paper (next_object pdf - 2)) pdf)
-    (λ behind. next_of (label_body behind.page words) behind)
+page_told sheet words pdf = and_then (sheet_told sheet pdf) (label_told words)
 
 -- its end, with these words of its label
 unfoldable pub page_closed : PageSheet → (words : List ℕ) → Pdf → Written
@@ -180,11 +190,13 @@ last_written count job printer sentence pdf =
     four (object 1 (catalog_body count)) (object 2 (pages_body count)) (object 3 (information_body job printer))
     (object 4 (verdict_body sentence)) pdf
 
--- the table, where these are the last of the places
-abbrev pub table_of : (count : ℕ) → Pdf → List ℕ
-table_of count pdf = table_text (count + 5) (drop count pdf.places) (take count pdf.places) pdf.written
+-- the table of where the objects stand
+abbrev pub table_of : Pdf → List ℕ
+table_of pdf = places_table pdf.places pdf.written
+
+-- a step, and then a text that is the last
+abbrev pub and_last : Written → (Pdf → List ℕ) → List ℕ
+and_last first last = first.text ++ last first.pdf
 
 unfoldable pub document_end : (job printer sentence : List ℕ) → Pdf → List ℕ
-document_end job printer sentence pdf =
-    let last = last_written (page_count pdf) job printer sentence pdf in
-    last.text ++ table_of (length pdf.places) last.pdf
+document_end job printer sentence pdf = and_last (last_written (page_count pdf) job printer sentence pdf) table_of

@@ -4,8 +4,8 @@ use Rattle.std.specs.List.{range_with_len}
 use Rattle.page_picture.specs.declared.characters.Repertoire.{Repertoire}
 use Rattle.page_picture.specs.Characters.{character_in}
 use Rattle.page_pdf.specs.declared.object_parts.ObjectPart.TheVariants as parts
+use Rattle.page_pdf.specs.Figures.{code_digits}
 use Rattle.page_pdf.specs.ObjectParts.{object_part}
-use Rattle.shown_bytes.specs.Shown.{hex_byte}
 
 -- what a code stands for, or that it is not known
 abbrev pub character_number : Repertoire → ℕ → ℕ
@@ -13,13 +13,14 @@ character_number repertoire code = unwrap_or (character_in (Some repertoire) cod
 
 -- by four digits
 unfoldable pub character_digits : ℕ → List ℕ
-character_digits n = 60 ∷ hex_byte (n / 256) ++ hex_byte (n % 256) ++ 62 ∷ []
+character_digits n = 60 ∷ code_digits (n / 256) ++ code_digits (n % 256) ++ 62 ∷ []
 
-abbrev pub map_entry : Repertoire → ℕ → List ℕ
+unfoldable pub map_entry : Repertoire → ℕ → List ℕ
 map_entry repertoire code = character_digits (character_number repertoire code)
 
-abbrev pub map_entries : Repertoire → List ℕ
-map_entries repertoire = flat_map (map_entry repertoire) (range_with_len 0 256)
+-- of so many codes, from 0 on
+unfoldable pub entries_to : Repertoire → (count : ℕ) → List ℕ
+entries_to repertoire count = flat_map (map_entry repertoire) (range_with_len 0 count)
 
 unfoldable pub map_object : Repertoire → List ℕ
-map_object repertoire = object_part parts.MapStart ++ map_entries repertoire ++ object_part parts.MapEnd
+map_object repertoire = object_part parts.MapStart ++ entries_to repertoire 256 ++ object_part parts.MapEnd

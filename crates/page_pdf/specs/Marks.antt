@@ -6,14 +6,13 @@ use Rattle.page_env.specs.declared.mark.Fill.{Fill}
 use Rattle.page_env.specs.declared.mark.Fill.TheVariants.{Solid, Erase, Shade, Hatch}
 use Rattle.page_env.specs.declared.mark.Glyph.{Glyph}
 use Rattle.page_env.specs.declared.mark.PenLine.{PenLine}
+use Rattle.page_env.specs.declared.page.Resolution.{Resolution}
 use Rattle.page_env.specs.Mark.{PixelRow, Shape, Rectangle, Character, Row, Line, pixels_per_inch}
 use Rattle.page_picture.specs.Characters.{character_of, repertoire_of}
 use Rattle.page_pdf.specs.declared.mark_parts.MarkPart.TheVariants as parts
 use Rattle.page_pdf.specs.Codes.{face_name, hidden_name, letter_of}
-use Rattle.page_pdf.specs.Figures.{box_figures, figure, length_figure, letter_width}
+use Rattle.page_pdf.specs.Figures.{box_figures, code_digits, figure, height_figure, length_figure, letter_width}
 use Rattle.page_pdf.specs.MarkParts.{mark_part}
-use Rattle.shown_bytes.specs.Decimals.{with_hundredths}
-use Rattle.shown_bytes.specs.Shown.{hex_byte}
 
 -- ---- rectangles
 
@@ -49,24 +48,23 @@ unfoldable pub box_text : Glyph → List ℕ
 box_text glyph =
     mark_part parts.BoxStart ++ box_figures glyph.bounds ++ mark_part parts.Rectangle ++ mark_part parts.BoxEnd
 
--- how wide and how high its letter is, and where on its baseline that stands:
--- a ten-thousandth of a point is a hundredth of a unit
+-- how wide and how high its letter is, and where on its baseline that stands
 unfoldable pub letter_figures : Glyph → List ℕ
 letter_figures glyph =
-    figure (letter_width glyph.bounds) ++ mark_part parts.TextHeight ++ with_hundredths glyph.request.height
-    ++ mark_part parts.TextPlace ++ length_figure glyph.bounds.left ++ length_figure glyph.y
+    figure (letter_width glyph.bounds) ++ mark_part parts.TextHeight ++ height_figure glyph.request.height
+    ++ length_figure glyph.bounds.left ++ length_figure glyph.y
 
 -- a character that the faces have with this code
 unfoldable pub letter_text : Glyph → (code : ℕ) → List ℕ
 letter_text glyph code =
     mark_part parts.TextStart ++ face_name glyph.request ++ mark_part parts.TextSize ++ letter_figures glyph
-    ++ mark_part parts.TextCode ++ hex_byte code ++ mark_part parts.TextEnd
+    ++ mark_part parts.TextCode ++ code_digits code ++ mark_part parts.TextEnd
 
 -- one that they have not: it is there to be found, with its code in the job, and does not show
 unfoldable pub hidden_text : Glyph → List ℕ
 hidden_text glyph =
     mark_part parts.HiddenStart ++ hidden_name (repertoire_of glyph.request.symbol_set) ++ mark_part parts.TextSize
-    ++ letter_figures glyph ++ mark_part parts.TextCode ++ hex_byte glyph.code ++ mark_part parts.HiddenEnd
+    ++ letter_figures glyph ++ mark_part parts.TextCode ++ code_digits glyph.code ++ mark_part parts.HiddenEnd
 
 -- a character that is known, by its code in the faces, if it has one: else its box shows
 unfoldable pub known_text : Glyph → Option ℕ → List ℕ
@@ -84,13 +82,14 @@ glyph_text glyph = character_text glyph (character_of glyph.request.symbol_set g
 -- ---- rows of rasters
 
 -- how many units a pixel is wide, and high: an inch has 7200
-abbrev pub pixel_units : PixelRow → ℕ
-pixel_units row = 7200 / pixels_per_inch row.resolution
+abbrev pub pixel_units : Resolution → ℕ
+pixel_units resolution = 7200 / pixels_per_inch resolution
 
 -- how large a row is, and where it stands: where its first byte begins
 unfoldable pub row_place : PixelRow → List ℕ
 row_place row =
-    decimal (8 * length row.bytes * pixel_units row) ++ mark_part parts.RowHeight ++ decimal (pixel_units row)
+    decimal (8 * length row.bytes * pixel_units row.resolution) ++ mark_part parts.RowHeight
+    ++ decimal (pixel_units row.resolution)
     ++ mark_part parts.RowPlace ++ length_figure row.x ++ length_figure row.y
 
 -- an image of one row, whose black pixels mark the page

@@ -62,14 +62,15 @@ sentence_size page count = letter_size page.page_width (count + 3)
 abbrev pub above_foot : Geometry → ℤ
 above_foot page = page.page_height -ℤ pos 12_192_000_000
 
--- letters of this size, and where the first stands: as far from the edge as they are high
-unfoldable pub sentence_place : Geometry → (size : ℤ) → List ℕ
-sentence_place page size =
-    figure size ++ page_part parts.SentenceHeight ++ figure size ++ figure size ++ length_figure (above_foot page)
+-- how large the letters of a sentence of so many are, and where the first stands: as far from the edge as it is high
+unfoldable pub sentence_place : Geometry → (count : ℕ) → List ℕ
+sentence_place page count =
+    figure (sentence_size page count) ++ page_part parts.SentenceHeight ++ figure (sentence_size page count)
+    ++ figure (sentence_size page count) ++ length_figure (above_foot page)
 
 unfoldable pub sentence_text : Geometry → List ℕ → List ℕ
 sentence_text page sentence =
-    page_part parts.Sentence ++ sentence_place page (sentence_size page (length sentence))
+    page_part parts.Sentence ++ sentence_place page (length sentence)
     ++ page_part parts.SentenceText ++ letter_codes sentence ++ page_part parts.SentenceEnd
 
 -- both

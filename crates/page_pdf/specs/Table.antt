@@ -1,5 +1,5 @@
 -- The table of where the objects of a document stand, at its end.
-use Rattle.std.specs.Prelude.{ℕ, ◌+◌, ◌/◌, List, [], ◌∷◌, ◌++◌, decimal, flat_map}
+use Rattle.std.specs.Prelude.{ℕ, ◌+◌, ◌-◌, ◌/◌, List, [], ◌∷◌, ◌++◌, decimal, drop, flat_map, length, take}
 use Rattle.page_pdf.specs.declared.object_parts.ObjectPart.TheVariants as parts
 use Rattle.page_pdf.specs.ObjectParts.{object_part}
 use Rattle.shown_bytes.specs.Decimals.{digit}
@@ -31,3 +31,9 @@ table_end count start =
 
 abbrev pub table_text : (count : ℕ) → (first others : List ℕ) → (start : ℕ) → List ℕ
 table_text count first others start = table_places count first others ++ table_end count start
+
+-- of these places, of which the last four are those of the objects 1 to 4, and the others those from 5 on
+abbrev pub places_table : (places : List ℕ) → (start : ℕ) → List ℕ
+places_table places start =
+    let count = length places - 4 in
+    table_text (count + 5) (drop count places) (take count places) start

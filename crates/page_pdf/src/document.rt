@@ -5,9 +5,11 @@ ghost use Rattle.page_pdf.specs.Document.{
   HasWritten,
   begins_object,
   capped,
+  content_begun,
   document_end,
   end_written,
   failure_written,
+  label_told,
   last_written,
   mark_written,
   marks_begun,
@@ -17,16 +19,19 @@ ghost use Rattle.page_pdf.specs.Document.{
   next_of,
   no_pdf,
   object,
+  opens_page,
   page_begun,
   page_behind,
   page_closed,
   page_count,
   page_due,
   page_told,
+  sheet_told,
   table_of,
   writes,
 };
-ghost use Rattle.page_pdf.specs.Objects.{content_end, content_start, failing_words};
+ghost use Rattle.page_pdf.specs.Objects.{catalog_body, information_body, pages_body};
+ghost use Rattle.page_pdf.specs.Objects.{verdict_body};
 ghost use Rattle.page_pdf.specs.Pages.{failed_text, page_end, page_start};
 
 use crate::counting::written_behind;
@@ -37,9 +42,9 @@ use crate::objects::{
     push_object_text, push_page_body, push_pages_body, push_verdict_body,
 };
 use crate::pages::{push_failed, push_page_end, push_page_start};
-use crate::table::push_table;
+use crate::table::push_places_table;
 use device_profile::Geometry;
-use page_env::{Mark, PageEnd};
+use page_env::{Mark, PageEnd, SheetPlace};
 use shown_bytes::push_number;
 use std::alloc::{AllocError, Allocator, Global};
 use std::marker::Model;
@@ -79,6 +84,14 @@ impl<A: Allocator + Copy> Model for Document<A> {
     } };
 }
 
+/// How many objects stand at these places.
+fn object_count(places: &[u64]) -> u64
+    ensures value { result ≡ length places.now }
+    ensures few { result ≤ 2 ^ 63 - 1 }
+{
+    places.len() as u64
+}
+
 impl<A: Allocator + Copy> Document<A> {
     /// Of which nothing is written.
     pub fn new(alloc: A) -> Document<A>
@@ -105,11 +118,32 @@ impl<A: Allocator + Copy> Document<A> {
         self.places.clear();
     }
 
+    /// How many bytes are written.
+    fn written(&self) -> u64
+        ensures { result ≡ self.now.written }
+    {
+        self.written
+    }
+
+    /// What marks a page is being written.
+    fn is_open(&self) -> bool
+        ensures { result ≡ self.now.is_open }
+    {
+        self.is_open
+    }
+
     /// The number of the page of the job that is open.
     pub fn page(&self) -> u64
         ensures { result ≡ self.now.page }
     {
         self.page
+    }
+
+    /// Where the objects from the fifth on stand.
+    fn places(&self) -> &[u64]
+        ensures { result.now ≡ self.now.places }
+    {
+        &self.places
     }
 
     /// Whence texts that are put into the document come.
@@ -124,11 +158,10 @@ impl<A: Allocator + Copy> Document<A> {
         ensures value { result ≡ next_object self.now }
         ensures few { result ≤ 2 ^ 63 + 4 }
     {
-        5 + self.places.len() as u64
+        5 + object_count(self.places())
     }
 
     /// Counts what a text that was so long has more.
-    #[tactic(auto, using(crate::proofs::Counting::longer))]
     fn count<B: Allocator>(&mut self, before: usize, text: &Vec<u8, B>)
         ensures { self.new ≡ record self.old {
           written = capped (self.old.written + (vec_len text.now - before));
@@ -146,7 +179,6 @@ impl<A: Allocator + Copy> Document<A> {
     }
 
     /// Writes a text.
-    #[tactic(auto, using(crate::proofs::Counting::longer))]
     pub(crate) fn push_text<B: Allocator>(
         &mut self,
         text: &mut Vec<u8, B>,
@@ -162,7 +194,6 @@ impl<A: Allocator + Copy> Document<A> {
     }
 
     /// Writes an object of this number.
-    #[tactic(auto, using(crate::proofs::Counting::longer))]
     pub(crate) fn push_object<B: Allocator>(
         &mut self,
         text: &mut Vec<u8, B>,
@@ -194,25 +225,38 @@ impl<A: Allocator + Copy> Document<A> {
 
     // ---- a page
 
-    /// Writes how what marks a page begins.
-    #[tactic(auto, using(crate::proofs::Counting::longer))]
-    fn begin_marks<B: Allocator>(&mut self, text: &mut Vec<u8, B>) -> Result<(), AllocError>
-        ensures { OnOk result (HasWritten
-            (marks_begun (writes (content_start (next_object self.old)) (begins_object self.old)))
-            text.old.items text.new.items self.new) }
+    /// Writes how the object begins that marks a page.
+    fn begin_content<B: Allocator>(&mut self, text: &mut Vec<u8, B>) -> Result<(), AllocError>
+        ensures { OnOk result
+            (HasWritten (content_begun self.old) text.old.items text.new.items self.new) }
     {
         let number = self.next_object();
         self.begin_object()?;
         let before = text.len();
         push_content_start(text, number)?;
         self.count(before, text);
+        Ok(())
+    }
+
+    /// What marks a page begins here.
+    fn open_page(&mut self)
+        ensures { self.new ≡ opens_page self.old }
+    {
         self.begun = self.written;
         self.is_open = true;
+    }
+
+    /// Writes how what marks a page begins.
+    fn begin_marks<B: Allocator>(&mut self, text: &mut Vec<u8, B>) -> Result<(), AllocError>
+        ensures { OnOk result
+            (HasWritten (marks_begun self.old) text.old.items text.new.items self.new) }
+    {
+        self.begin_content(text)?;
+        self.open_page();
         Ok(())
     }
 
     /// Writes what stands before the marks of a page.
-    #[tactic(auto, using(crate::proofs::Counting::longer))]
     fn push_setting<B: Allocator>(
         &mut self,
         text: &mut Vec<u8, B>,
@@ -229,7 +273,6 @@ impl<A: Allocator + Copy> Document<A> {
     }
 
     /// Begins a page.
-    #[tactic(auto, unfolding(crate::specs::Document::page_begun))]
     fn begin_page<B: Allocator>(
         &mut self,
         text: &mut Vec<u8, B>,
@@ -251,14 +294,13 @@ impl<A: Allocator + Copy> Document<A> {
         ensures { OnOk result
             (HasWritten (page_due sheet.now self.old) text.old.items text.new.items self.new) }
     {
-        if self.is_open {
+        if self.is_open() {
             return Ok(());
         }
         self.begin_page(text, sheet)
     }
 
     /// Writes a mark on the page that is open.
-    #[tactic(auto, unfolding(crate::specs::Document::mark_written), using(crate::proofs::Counting::longer))]
     pub fn push_mark<B: Allocator>(
         &mut self,
         text: &mut Vec<u8, B>,
@@ -283,7 +325,6 @@ impl<A: Allocator + Copy> Document<A> {
     }
 
     /// Writes what stands behind the marks of a page.
-    #[tactic(auto, using(crate::proofs::Counting::longer))]
     fn push_end_of_marks<B: Allocator>(
         &mut self,
         text: &mut Vec<u8, B>,
@@ -294,25 +335,51 @@ impl<A: Allocator + Copy> Document<A> {
             text.old.items text.new.items self.new) }
     {
         let before = text.len();
-        push_page_end(text, self.page, sheet.is_proof)?;
+        push_page_end(text, self.page(), sheet.is_proof)?;
         self.count(before, text);
         Ok(())
     }
 
     /// Ends what marks a page, and writes how long that is.
-    #[tactic(auto, unfolding(crate::specs::Document::marks_ended))]
     fn end_marks<B: Allocator>(&mut self, text: &mut Vec<u8, B>) -> Result<(), AllocError>
         ensures { OnOk result
             (HasWritten (marks_ended self.old) text.old.items text.new.items self.new) }
     {
-        let mut body = Vec::new(self.alloc);
+        let mut body = Vec::new(self.alloc());
         push_number(&mut body, self.marks_length())?;
         self.push_text(text, ObjectPart::ContentEnd.bytes())?;
         self.push_next(text, body.as_slice())
     }
 
+    /// Writes a page.
+    fn tell_sheet<B: Allocator>(
+        &mut self,
+        text: &mut Vec<u8, B>,
+        sheet: &PageSheet,
+    ) -> Result<(), AllocError>
+        ensures { OnOk result
+            (HasWritten (sheet_told sheet.now self.old) text.old.items text.new.items self.new) }
+    {
+        let mut body = Vec::new(self.alloc());
+        push_page_body(&mut body, &sheet.paper, self.next_object() - 2)?;
+        self.push_next(text, body.as_slice())
+    }
+
+    /// Writes the label of a page.
+    fn tell_label<B: Allocator>(
+        &mut self,
+        text: &mut Vec<u8, B>,
+        words: &[u8],
+    ) -> Result<(), AllocError>
+        ensures { OnOk result
+            (HasWritten (label_told words.now self.old) text.old.items text.new.items self.new) }
+    {
+        let mut body = Vec::new(self.alloc());
+        push_label_body(&mut body, self.page(), words)?;
+        self.push_next(text, body.as_slice())
+    }
+
     /// Writes a page and its label.
-    #[tactic(auto, unfolding(crate::specs::Document::page_told))]
     fn tell_page<B: Allocator>(
         &mut self,
         text: &mut Vec<u8, B>,
@@ -322,16 +389,11 @@ impl<A: Allocator + Copy> Document<A> {
         ensures { OnOk result (HasWritten (page_told sheet.now words.now self.old)
             text.old.items text.new.items self.new) }
     {
-        let mut page = Vec::new(self.alloc);
-        push_page_body(&mut page, &sheet.paper, self.next_object() - 2)?;
-        self.push_next(text, page.as_slice())?;
-        let mut label = Vec::new(self.alloc);
-        push_label_body(&mut label, self.page, words)?;
-        self.push_next(text, label.as_slice())
+        self.tell_sheet(text, sheet)?;
+        self.tell_label(text, words)
     }
 
     /// Ends a page, with these words of its label.
-    #[tactic(auto, unfolding(crate::specs::Document::page_closed))]
     fn close_page<B: Allocator>(
         &mut self,
         text: &mut Vec<u8, B>,
@@ -347,7 +409,6 @@ impl<A: Allocator + Copy> Document<A> {
     }
 
     /// Ends a page that is printed so.
-    #[tactic(auto, unfolding(crate::specs::Document::end_written))]
     pub fn end_page<B: Allocator>(
         &mut self,
         text: &mut Vec<u8, B>,
@@ -357,48 +418,44 @@ impl<A: Allocator + Copy> Document<A> {
         ensures { OnOk result (HasWritten (end_written sheet.now end self.old)
             text.old.items text.new.items self.new) }
     {
-        let mut words = Vec::new(self.alloc);
+        let mut words = Vec::new(self.alloc());
         push_end_words(&mut words, end)?;
         self.begin_if_due(text, sheet)?;
         self.close_page(text, sheet, words.as_slice())
     }
 
     /// Writes why a job fails.
-    #[tactic(auto, using(crate::proofs::Counting::longer))]
     fn push_why<B: Allocator>(
         &mut self,
         text: &mut Vec<u8, B>,
         sheet: &PageSheet,
-        x: i64,
-        y: i64,
+        spot: SheetPlace,
         sentence: &[u8],
     ) -> Result<(), AllocError>
         ensures { OnOk result (HasWritten
-            (writes (failed_text sheet.now.paper x y sentence.now) self.old)
+            (writes (failed_text sheet.now.paper spot.x spot.y sentence.now) self.old)
             text.old.items text.new.items self.new) }
     {
         let before = text.len();
-        push_failed(text, &sheet.paper, x, y, sentence)?;
+        push_failed(text, &sheet.paper, spot, sentence)?;
         self.count(before, text);
         Ok(())
     }
 
-    /// Ends a page on which the job fails: with a cross at a place, in ticks from its upper left
-    /// corner, and a sentence.
-    #[tactic(auto, unfolding(crate::specs::Document::failure_written))]
+    /// Ends a page on which the job fails: with a cross at a place, and a sentence.
     pub fn fail_page<B: Allocator>(
         &mut self,
         text: &mut Vec<u8, B>,
         sheet: &PageSheet,
-        x: i64,
-        y: i64,
+        spot: SheetPlace,
         sentence: &[u8],
     ) -> Result<(), AllocError>
-        ensures { OnOk result (HasWritten (failure_written sheet.now x y sentence.now self.old)
+        ensures { OnOk result
+            (HasWritten (failure_written sheet.now spot.x spot.y sentence.now self.old)
             text.old.items text.new.items self.new) }
     {
         self.begin_if_due(text, sheet)?;
-        self.push_why(text, sheet, x, y, sentence)?;
+        self.push_why(text, sheet, spot, sentence)?;
         self.close_page(text, sheet, ObjectPart::LabelFails.bytes())
     }
 
@@ -417,11 +474,69 @@ impl<A: Allocator + Copy> Document<A> {
         ensures value { result ≡ page_count self.now }
         ensures few { result ≤ 2 ^ 61 }
     {
-        (self.places.len().saturating_sub(18) / 4) as u64
+        object_count(self.places()).saturating_sub(18) / 4
+    }
+
+    /// Writes the object that names the others, with the labels of so many pages.
+    fn push_catalog<B: Allocator>(
+        &mut self,
+        text: &mut Vec<u8, B>,
+        count: u64,
+    ) -> Result<(), AllocError>
+        requires { count ≤ 2 ^ 61 }
+        ensures { OnOk result (HasWritten (object 1 (catalog_body count) self.old)
+            text.old.items text.new.items self.new) }
+    {
+        let mut body = Vec::new(self.alloc());
+        push_catalog_body(&mut body, count)?;
+        self.push_object(text, 1, body.as_slice())
+    }
+
+    /// Writes which objects so many pages are.
+    fn push_pages<B: Allocator>(
+        &mut self,
+        text: &mut Vec<u8, B>,
+        count: u64,
+    ) -> Result<(), AllocError>
+        requires { count ≤ 2 ^ 61 }
+        ensures { OnOk result (HasWritten (object 2 (pages_body count) self.old)
+            text.old.items text.new.items self.new) }
+    {
+        let mut body = Vec::new(self.alloc());
+        push_pages_body(&mut body, count)?;
+        self.push_object(text, 2, body.as_slice())
+    }
+
+    /// Writes the names of the job and of the printer.
+    fn push_information<B: Allocator>(
+        &mut self,
+        text: &mut Vec<u8, B>,
+        job: &[u8],
+        printer: &[u8],
+    ) -> Result<(), AllocError>
+        ensures { OnOk result (HasWritten (object 3 (information_body job.now printer.now) self.old)
+            text.old.items text.new.items self.new) }
+    {
+        let mut body = Vec::new(self.alloc());
+        push_information_body(&mut body, job, printer)?;
+        self.push_object(text, 3, body.as_slice())
+    }
+
+    /// Writes the verdict, to which the feet of pages point.
+    fn push_verdict<B: Allocator>(
+        &mut self,
+        text: &mut Vec<u8, B>,
+        sentence: &[u8],
+    ) -> Result<(), AllocError>
+        ensures { OnOk result (HasWritten (object 4 (verdict_body sentence.now) self.old)
+            text.old.items text.new.items self.new) }
+    {
+        let mut body = Vec::new(self.alloc());
+        push_verdict_body(&mut body, sentence)?;
+        self.push_object(text, 4, body.as_slice())
     }
 
     /// Writes the objects that say what the document is, of so many pages.
-    #[tactic(auto, unfolding(crate::specs::Document::last_written))]
     fn push_last<B: Allocator>(
         &mut self,
         text: &mut Vec<u8, B>,
@@ -435,37 +550,21 @@ impl<A: Allocator + Copy> Document<A> {
             (HasWritten (last_written count job.now printer.now sentence.now self.old)
             text.old.items text.new.items self.new) }
     {
-        let mut catalog = Vec::new(self.alloc);
-        push_catalog_body(&mut catalog, count)?;
-        self.push_object(text, 1, catalog.as_slice())?;
-        let mut pages = Vec::new(self.alloc);
-        push_pages_body(&mut pages, count)?;
-        self.push_object(text, 2, pages.as_slice())?;
-        let mut information = Vec::new(self.alloc);
-        push_information_body(&mut information, job, printer)?;
-        self.push_object(text, 3, information.as_slice())?;
-        let mut verdict = Vec::new(self.alloc);
-        push_verdict_body(&mut verdict, sentence)?;
-        self.push_object(text, 4, verdict.as_slice())
+        self.push_catalog(text, count)?;
+        self.push_pages(text, count)?;
+        self.push_information(text, job, printer)?;
+        self.push_verdict(text, sentence)
     }
 
-    /// Writes the table, where so many of the places are of objects from the fifth on.
-    fn push_table_of<B: Allocator>(
-        &self,
-        text: &mut Vec<u8, B>,
-        count: usize,
-    ) -> Result<(), AllocError>
-        requires { count ≤ length self.now.places }
-        ensures { OnOk result (text.new.items ≡ text.old.items ++ table_of count self.now) }
+    /// Writes the table of where the objects stand.
+    fn push_table<B: Allocator>(&self, text: &mut Vec<u8, B>) -> Result<(), AllocError>
+        ensures { OnOk result (text.new.items ≡ text.old.items ++ table_of self.now) }
     {
-        let places = self.places.as_slice();
-        let (others, first) = (&places[..count], &places[count..]);
-        push_table(text, count as u64 + 5, first, others, self.written)
+        push_places_table(text, self.places(), self.written())
     }
 
     /// Writes the end of the document, with the names of the job and of the printer, and the
     /// verdict.
-    #[tactic(auto, unfolding(crate::specs::Document::document_end))]
     pub fn push_end<B: Allocator>(
         &mut self,
         text: &mut Vec<u8, B>,
@@ -476,8 +575,8 @@ impl<A: Allocator + Copy> Document<A> {
         ensures { OnOk result (text.new.items ≡ text.old.items
             ++ document_end job.now printer.now sentence.now self.old) }
     {
-        let (pages, objects) = (self.page_count(), self.places.len());
-        self.push_last(text, pages, job, printer, sentence)?;
-        self.push_table_of(text, objects)
+        let count = self.page_count();
+        self.push_last(text, count, job, printer, sentence)?;
+        self.push_table(text)
     }
 }

@@ -1,13 +1,13 @@
 //! Sentences and names as codes of letters.
 ghost use Rattle.std.specs.Prelude.{◌≡◌, ◌++◌, OnOk};
-ghost use Rattle.page_pdf.specs.Hexes.{letter_code, letter_codes, letter_of};
+ghost use Rattle.page_pdf.specs.Hexes.{letter_code, letter_codes, plain_byte};
 
-use shown_bytes::hex_byte;
+use crate::figures::push_code;
 use std::alloc::{AllocError, Allocator};
 
 /// A byte that shows, and a question mark for any other.
-fn letter_of(byte: u8) -> u8
-    ensures { result ≡ letter_of byte }
+fn plain_byte(byte: u8) -> u8
+    ensures { result ≡ plain_byte byte }
 {
     if 32 <= byte && byte <= 126 {
         byte
@@ -16,10 +16,12 @@ fn letter_of(byte: u8) -> u8
     }
 }
 
+/// Appends the code of a byte of it.
+#[tactic(auto, unfolding(crate::specs::Hexes::letter_code))]
 fn push_letter<A: Allocator>(text: &mut Vec<u8, A>, byte: u8) -> Result<(), AllocError>
     ensures { OnOk result (text.new.items ≡ text.old.items ++ letter_code byte) }
 {
-    text.extend_from_slice(&hex_byte(letter_of(byte)))
+    push_code(text, plain_byte(byte))
 }
 
 /// Appends the codes of a sentence, or of a name.

@@ -3,24 +3,21 @@ ghost use Rattle.std.specs.Prelude.{◌≡◌, ◌≤◌, ◌++◌, OnOk};
 ghost use Rattle.page_pdf.specs.Maps.{
   character_digits,
   character_number,
-  map_entries,
+  entries_to,
   map_entry,
   map_object,
 };
 
+use crate::figures::push_code;
 use crate::object_parts::ObjectPart;
 use page_picture::{Repertoire, character_in};
-use shown_bytes::hex_byte;
 use std::alloc::{AllocError, Allocator};
 
 /// What a code stands for, or that it is not known.
 fn character_number(repertoire: Repertoire, code: u8) -> u16
     ensures { result ≡ character_number repertoire code }
 {
-    match character_in(Some(repertoire), code) {
-        Some(character) => character,
-        None => 65_533,
-    }
+    character_in(Some(repertoire), code).unwrap_or(65_533)
 }
 
 /// Appends a character by four digits.
@@ -29,13 +26,14 @@ fn push_digits<A: Allocator>(text: &mut Vec<u8, A>, character: u16) -> Result<()
     ensures { OnOk result (text.new.items ≡ text.old.items ++ character_digits character) }
 {
     text.push(b'<')?;
-    text.extend_from_slice(&hex_byte((character / 256) as u8))?;
-    text.extend_from_slice(&hex_byte((character % 256) as u8))?;
+    push_code(text, (character / 256) as u8)?;
+    push_code(text, (character % 256) as u8)?;
     text.push(b'>')?;
     Ok(())
 }
 
 /// Appends what a code stands for.
+#[tactic(auto, unfolding(crate::specs::Maps::map_entry))]
 fn push_entry<A: Allocator>(
     text: &mut Vec<u8, A>,
     repertoire: Repertoire,
@@ -47,15 +45,17 @@ fn push_entry<A: Allocator>(
     push_digits(text, character_number(repertoire, code as u8))
 }
 
-/// Appends what each code stands for.
-#[tactic(auto, using(crate::proofs::Counting::entries_more))]
+/// Appends what each of the first codes stands for.
+#[tactic(auto, unfolding(crate::specs::Maps::entries_to), using(crate::proofs::Counting::entries_more))]
 fn push_entries<A: Allocator>(
     text: &mut Vec<u8, A>,
     repertoire: Repertoire,
+    count: u32,
 ) -> Result<(), AllocError>
-    ensures { OnOk result (text.new.items ≡ text.old.items ++ map_entries repertoire) }
+    requires { count ≤ 256 }
+    ensures { OnOk result (text.new.items ≡ text.old.items ++ entries_to repertoire count) }
 {
-    for code in 0..256u32 {
+    for code in 0..count {
         push_entry(text, repertoire, code)?;
     }
     Ok(())
@@ -70,6 +70,6 @@ pub(crate) fn push_map<A: Allocator>(
     ensures { OnOk result (text.new.items ≡ text.old.items ++ map_object repertoire) }
 {
     text.extend_from_slice(ObjectPart::MapStart.bytes())?;
-    push_entries(text, repertoire)?;
+    push_entries(text, repertoire, 256)?;
     text.extend_from_slice(ObjectPart::MapEnd.bytes())
 }

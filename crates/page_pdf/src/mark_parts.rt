@@ -51,8 +51,6 @@ pub(crate) enum MarkPart {
     TextSize,
     /// Between how wide letters are and how high.
     TextHeight,
-    /// Between that and where they stand.
-    TextPlace,
     /// Before their codes.
     TextCode,
     /// Behind them.
@@ -95,7 +93,6 @@ impl MarkPart {
             MarkPart::HiddenStart => b"BT 3 Tr /",
             MarkPart::TextSize => b" 1 Tf ",
             MarkPart::TextHeight => b"0 0 -",
-            MarkPart::TextPlace => b" ",
             MarkPart::TextCode => b"Tm <",
             MarkPart::TextEnd => b"> Tj ET\n",
             MarkPart::HiddenEnd => b"> Tj 0 Tr ET\n",

@@ -1,5 +1,5 @@
 //! What marks a page, mark by mark.
-ghost use Rattle.std.specs.Prelude.{◌≡◌, ◌*◌, ◌≤◌, ◌++◌, OnOk, length};
+ghost use Rattle.std.specs.Prelude.{◌≡◌, ◌*◌, ◌≤◌, ◌^◌, ◌++◌, OnOk, length};
 ghost use Rattle.page_env.specs.Mark.{row_of, shape_of};
 ghost use Rattle.page_pdf.specs.Marks.{
   area_text,
@@ -21,11 +21,14 @@ ghost use Rattle.page_pdf.specs.Marks.{
 };
 
 use crate::codes::{face_name, hidden_name, letter_of};
-use crate::figures::{letter_width, push_box, push_count, push_figure, push_length, push_ticks};
+use crate::figures::{
+    letter_width, push_box, push_code, push_count, push_figure, push_height, push_length,
+    push_ticks,
+};
 use crate::mark_parts::MarkPart;
 use page_env::{Area, Fill, Glyph, Mark, PenLine, RasterRow, Resolution};
 use page_picture::{character_of, repertoire_of};
-use shown_bytes::{hex_byte, push_number, push_with_hundredths};
+use shown_bytes::push_number;
 use std::alloc::{AllocError, Allocator};
 
 /// Appends what a mark is on its page.
@@ -100,8 +103,9 @@ fn fill_end(fill: Fill) -> &'static [u8]
 {
     match fill {
         Fill::Solid => MarkPart::Filled.bytes(),
-        Fill::Erase | Fill::Hatch(_) => MarkPart::FilledBlackNext.bytes(),
+        Fill::Erase => MarkPart::FilledBlackNext.bytes(),
         Fill::Shade(_) => MarkPart::FilledWholeNext.bytes(),
+        Fill::Hatch(_) => MarkPart::FilledBlackNext.bytes(),
     }
 }
 
@@ -167,9 +171,7 @@ fn push_letter_figures<A: Allocator>(text: &mut Vec<u8, A>, glyph: &Glyph) -> Re
 {
     push_figure(text, letter_width(&glyph.bounds))?;
     text.extend_from_slice(MarkPart::TextHeight.bytes())?;
-    // A ten-thousandth of a point is a hundredth of a unit.
-    push_with_hundredths(text, u64::from(glyph.request.height))?;
-    text.extend_from_slice(MarkPart::TextPlace.bytes())?;
+    push_height(text, glyph.request.height)?;
     push_length(text, glyph.bounds.left)?;
     push_length(text, glyph.y)
 }
@@ -188,7 +190,7 @@ fn push_letter<A: Allocator>(
     text.extend_from_slice(MarkPart::TextSize.bytes())?;
     push_letter_figures(text, glyph)?;
     text.extend_from_slice(MarkPart::TextCode.bytes())?;
-    text.extend_from_slice(&hex_byte(code))?;
+    push_code(text, code)?;
     text.extend_from_slice(MarkPart::TextEnd.bytes())
 }
 
@@ -202,18 +204,18 @@ fn push_hidden<A: Allocator>(text: &mut Vec<u8, A>, glyph: &Glyph) -> Result<(),
     text.extend_from_slice(MarkPart::TextSize.bytes())?;
     push_letter_figures(text, glyph)?;
     text.extend_from_slice(MarkPart::TextCode.bytes())?;
-    text.extend_from_slice(&hex_byte(glyph.code))?;
+    push_code(text, glyph.code)?;
     text.extend_from_slice(MarkPart::HiddenEnd.bytes())
 }
 
 // ---- rows of rasters
 
 /// How many units a pixel is wide, and high.
-fn pixel_units(row: &RasterRow<'_>) -> u128
-    ensures units { result ≡ pixel_units (row_of row.now) }
+fn pixel_units(resolution: Resolution) -> u128
+    ensures units { result ≡ pixel_units resolution }
     ensures few { result ≤ 96 }
 {
-    match row.resolution {
+    match resolution {
         Resolution::Dots75 => 96,
         Resolution::Dots100 => 72,
         Resolution::Dots150 => 48,
@@ -225,9 +227,19 @@ fn pixel_units(row: &RasterRow<'_>) -> u128
 
 /// How many pixels a row has: eight a byte.
 fn pixel_count(bytes: &[u8]) -> u128
-    ensures { result ≡ 8 * length bytes.now }
+    ensures value { result ≡ 8 * length bytes.now }
+    ensures few { result ≤ 2 ^ 67 }
 {
     8 * bytes.len() as u128
+}
+
+/// How many units so many pixels go, of which each goes so many.
+fn units_of(pixels: u128, pixel: u128) -> u128
+    requires few { pixels ≤ 2 ^ 67 }
+    requires small { pixel ≤ 96 }
+    ensures { result ≡ pixels * pixel }
+{
+    pixels * pixel
 }
 
 /// Appends how large a row is, and where it stands.
@@ -238,8 +250,8 @@ fn push_row_place<A: Allocator>(
 ) -> Result<(), AllocError>
     ensures { OnOk result (text.new.items ≡ text.old.items ++ row_place (row_of row.now)) }
 {
-    let pixel = pixel_units(row);
-    push_count(text, pixel_count(row.bytes) * pixel)?;
+    let pixel = pixel_units(row.resolution);
+    push_count(text, units_of(pixel_count(row.bytes), pixel))?;
     text.extend_from_slice(MarkPart::RowHeight.bytes())?;
     push_count(text, pixel)?;
     text.extend_from_slice(MarkPart::RowPlace.bytes())?;

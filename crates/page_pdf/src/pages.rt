@@ -22,6 +22,7 @@ use crate::hexes::push_letters;
 use crate::mark_parts::MarkPart;
 use crate::page_parts::PagePart;
 use device_profile::Geometry;
+use page_env::SheetPlace;
 use page_picture::{letter_size, printable_box};
 use shown_bytes::push_number;
 use std::alloc::{AllocError, Allocator};
@@ -134,14 +135,14 @@ pub(crate) fn push_page_end<A: Allocator>(
 
 // ---- where a job fails
 
-/// Appends a cross at a place on the page, in ticks from its upper left corner.
+/// Appends a cross at a place on the page.
 #[tactic(auto, unfolding(crate::specs::Pages::failure_text))]
-fn push_cross<A: Allocator>(text: &mut Vec<u8, A>, x: i64, y: i64) -> Result<(), AllocError>
-    ensures { OnOk result (text.new.items ≡ text.old.items ++ failure_text x y) }
+fn push_cross<A: Allocator>(text: &mut Vec<u8, A>, spot: SheetPlace) -> Result<(), AllocError>
+    ensures { OnOk result (text.new.items ≡ text.old.items ++ failure_text spot.x spot.y) }
 {
     text.extend_from_slice(PagePart::Failure.bytes())?;
-    push_ticks(text, x)?;
-    push_ticks(text, y)?;
+    push_ticks(text, spot.x)?;
+    push_ticks(text, spot.y)?;
     text.extend_from_slice(PagePart::FailureEnd.bytes())
 }
 
@@ -160,19 +161,20 @@ fn above_foot(page: &Geometry) -> i64
     page.page_height.ticks() - RISE
 }
 
-/// Appends how large the letters of a sentence are, and where the first stands.
+/// Appends how large the letters of a sentence of so many are, and where the first stands.
 #[tactic(auto, unfolding(crate::specs::Pages::sentence_place))]
 fn push_sentence_place<A: Allocator>(
     text: &mut Vec<u8, A>,
     page: &Geometry,
-    size: i64,
+    count: usize,
 ) -> Result<(), AllocError>
-    ensures { OnOk result (text.new.items ≡ text.old.items ++ sentence_place page.now size) }
+    requires { count ≤ 2 ^ 63 }
+    ensures { OnOk result (text.new.items ≡ text.old.items ++ sentence_place page.now count) }
 {
-    push_figure(text, size)?;
+    push_figure(text, sentence_size(page, count))?;
     text.extend_from_slice(PagePart::SentenceHeight.bytes())?;
-    push_figure(text, size)?;
-    push_figure(text, size)?;
+    push_figure(text, sentence_size(page, count))?;
+    push_figure(text, sentence_size(page, count))?;
     push_ticks(text, above_foot(page))
 }
 
@@ -187,7 +189,7 @@ fn push_sentence<A: Allocator>(
         (text.new.items ≡ text.old.items ++ sentence_text page.now sentence.now) }
 {
     text.extend_from_slice(PagePart::Sentence.bytes())?;
-    push_sentence_place(text, page, sentence_size(page, sentence.len()))?;
+    push_sentence_place(text, page, sentence.len())?;
     text.extend_from_slice(PagePart::SentenceText.bytes())?;
     push_letters(text, sentence)?;
     text.extend_from_slice(PagePart::SentenceEnd.bytes())
@@ -197,13 +199,12 @@ fn push_sentence<A: Allocator>(
 pub(crate) fn push_failed<A: Allocator>(
     text: &mut Vec<u8, A>,
     page: &Geometry,
-    x: i64,
-    y: i64,
+    spot: SheetPlace,
     sentence: &[u8],
 ) -> Result<(), AllocError>
     ensures { OnOk result
-        (text.new.items ≡ text.old.items ++ failed_text page.now x y sentence.now) }
+        (text.new.items ≡ text.old.items ++ failed_text page.now spot.x spot.y sentence.now) }
 {
-    push_cross(text, x, y)?;
+    push_cross(text, spot)?;
     push_sentence(text, page, sentence)
 }

@@ -3,6 +3,7 @@ ghost use Rattle.std.specs.Prelude.{◌≡◌, ◌++◌, OnOk};
 ghost use Rattle.page_pdf.specs.Table.{
   five_digits,
   place_digits,
+  places_table,
   table_end,
   table_entries,
   table_entry,
@@ -87,7 +88,7 @@ fn push_table_end<A: Allocator>(
 }
 
 /// Appends the table, which stands at this place.
-pub(crate) fn push_table<A: Allocator>(
+fn push_table<A: Allocator>(
     text: &mut Vec<u8, A>,
     count: u64,
     first: &[u64],
@@ -99,4 +100,17 @@ pub(crate) fn push_table<A: Allocator>(
 {
     push_places(text, count, first, others)?;
     push_table_end(text, count, start)
+}
+
+/// Appends the table of these places, of which the last four are those of the first objects.
+pub(crate) fn push_places_table<A: Allocator>(
+    text: &mut Vec<u8, A>,
+    places: &[u64],
+    start: u64,
+) -> Result<(), AllocError>
+    ensures { OnOk result (text.new.items ≡ text.old.items ++ places_table places.now start) }
+{
+    let count = places.len().saturating_sub(4);
+    let (others, first) = (&places[..count], &places[count..]);
+    push_table(text, count as u64 + 5, first, others, start)
 }

@@ -87,7 +87,7 @@ pub(crate) fn push_length_attribute<A: Allocator>(
 }
 
 /// How many hundredths of a unit one place lies behind another, both rounded.
-pub(crate) fn span(first: Length, last: Length) -> i64
+pub fn span(first: Length, last: Length) -> i64
     ensures { result ≡ span first last }
 {
     hundredths(last.ticks()) - hundredths(first.ticks())

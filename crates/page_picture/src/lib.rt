@@ -16,6 +16,7 @@ mod sheet_parts;
 mod texts;
 mod titles;
 
+pub use attributes::span;
 pub use characters::{Repertoire, WINDOWS_FROM_128, character_in, character_of, repertoire_of};
 pub use failure::{Outline, push_limit, push_unmade, push_veil};
 pub use failure_parts::Limit;

@@ -91,7 +91,7 @@ returns-in-Err-Refused-clause-finishes g c =
     (end_of c.args.machine.now) true _ c.finish.new.sink c.args.machine.now c.finish.new.self)
     is c.finish.ensures in
     let refused = executed.2 in
-    let led = led_all g.W.Outlet.state _ refused.mid refused.before.events c.requires.working refused.before.leads in
+    let led = led_all g.W.Outlet.state _ refused.mid refused.took.events c.requires.working refused.took.leads in
     let same_outlet = refused.refused.0.outlet ∙ led.same_outlet in
     let outlet_is : sink.outlet.now ≡ c.outlet-in-Err-Refused-1.given.0 = search rules in
     subst
@@ -110,7 +110,7 @@ returns-in-Err-Refused-clause-status g c =
     (end_of c.args.machine.now) true _ c.finish.new.sink c.args.machine.now c.finish.new.self)
     is c.finish.ensures in
     let refused = executed.2 in
-    let led = led_all g.W.Outlet.state _ refused.mid refused.before.events c.requires.working refused.before.leads in
+    let led = led_all g.W.Outlet.state _ refused.mid refused.took.events c.requires.working refused.took.leads in
     let same_outlet = refused.refused.0.outlet ∙ led.same_outlet in
     let outlet_is : sink.outlet.now ≡ c.outlet-in-Err-Refused-1.given.0 = search rules in
     subst (λ outlet. (g.W.Outlet.state outlet).failed ≡ is_write c.refusal.result) outlet_is c.refusal.ensures.status

@@ -94,7 +94,7 @@ returns-in-Err-Refused-clause-steps g c =
     (item_of c.args.machine.now (view c.args.item.now)) false _ c.step.new.sink c.args.machine.now c.step.new.self)
     is c.step.ensures in
     let refused = executed.2 in
-    let led = led_all g.W.Outlet.state _ refused.mid refused.before.events c.requires.working refused.before.leads in
+    let led = led_all g.W.Outlet.state _ refused.mid refused.took.events c.requires.working refused.took.leads in
     let same_outlet = refused.refused.0.outlet ∙ led.same_outlet in
     let outlet_is : sink.outlet.now ≡ c.outlet-in-Err-Refused-1.given.0 = search rules in
     subst
@@ -113,7 +113,7 @@ returns-in-Err-Refused-clause-status g c =
     (item_of c.args.machine.now (view c.args.item.now)) false _ c.step.new.sink c.args.machine.now c.step.new.self)
     is c.step.ensures in
     let refused = executed.2 in
-    let led = led_all g.W.Outlet.state _ refused.mid refused.before.events c.requires.working refused.before.leads in
+    let led = led_all g.W.Outlet.state _ refused.mid refused.took.events c.requires.working refused.took.leads in
     let same_outlet = refused.refused.0.outlet ∙ led.same_outlet in
     let outlet_is : sink.outlet.now ≡ c.outlet-in-Err-Refused-1.given.0 = search rules in
     subst (λ outlet. (g.W.Outlet.state outlet).failed ≡ is_write c.refusal.result) outlet_is c.refusal.ensures.status

@@ -7,6 +7,7 @@ use Rattle.renderings.specs.Carriers.PageRendering.{any_panel}
 use Rattle.renderings.proofs.Renderings.{end_none}
 use Rattle.requests.specs.Selection.{is_behind}
 use Rattle.job_pdf.specs.Carriers.Rest.{drawn_from}
+use Rattle.job_pdf.specs.Plan.{plan_of}
 use Rattle.job_pdf.specs.Sheet.{Spot, sheet_of, spot_of}
 use Rattle.job_pdf.proofs.Tellings.{end_stops, end_ends, end_goes_on, end_fails, end_cuts}
 use Rattle.job_pdf.proofs.job_pdf.JobPdfRenderer.end.Goals as goal
@@ -14,14 +15,14 @@ use Rattle.job_pdf.proofs.job_pdf.JobPdfRenderer.end.Goals as goal
 pub returns-in_err-push_start_if_due-clause-rendered : goal.returns-in_err-push_start_if_due-clause-rendered
 returns-in_err-push_start_if_due-clause-rendered g c =
     let own = c.args.self.now in
-    end_none (drawn_from own.wanted.now own.machine own.document own.is_started)
+    end_none (drawn_from (plan_of own.wanted.now) own.machine own.document own.is_started)
     (λ reading. reading ≡ Whole [] c.args.place) (g.W.Outlet.state c.args.outlet.now) c.args.kept.now.items
     c.push_start_if_due.new.text.items c.from_residual.result c.from_residual.ensures.0
 
 pub returns-in_err-found-clause-rendered : goal.returns-in_err-found-clause-rendered
 returns-in_err-found-clause-rendered g c =
     let own = c.args.self.now in
-    let plan = own.wanted.now in
+    let plan = plan_of own.wanted.now in
     let here = state_at any_panel own.machine.page in
     let sheet_is : c.sheet_of-sheet.result ≡ sheet_of plan own.machine.printer here =
     c.sheet_of-sheet.ensures
@@ -43,7 +44,7 @@ returns-in_err-found-clause-rendered g c =
 pub returns-in_err-push_whole_end-then-is_behind-clause-rendered : goal.returns-in_err-push_whole_end-then-is_behind-clause-rendered
 returns-in_err-push_whole_end-then-is_behind-clause-rendered g c =
     let own = c.args.self.now in
-    let plan = own.wanted.now in
+    let plan = plan_of own.wanted.now in
     let here = state_at any_panel own.machine.page in
     let sheet_is : c.sheet_of-sheet.result ≡ sheet_of plan own.machine.printer here =
     c.sheet_of-sheet.ensures
@@ -65,7 +66,7 @@ returns-in_err-push_whole_end-then-is_behind-clause-rendered g c =
 pub returns-in_err-push_whole_end-in-None-clause-rendered : goal.returns-in_err-push_whole_end-in-None-clause-rendered
 returns-in_err-push_whole_end-in-None-clause-rendered g c =
     let own = c.args.self.now in
-    let plan = own.wanted.now in
+    let plan = plan_of own.wanted.now in
     let here = state_at any_panel own.machine.page in
     let sheet_is : c.sheet_of-sheet.result ≡ sheet_of plan own.machine.printer here =
     c.sheet_of-sheet.ensures
@@ -87,7 +88,7 @@ returns-in_err-push_whole_end-in-None-clause-rendered g c =
 pub returns-in_err-push_failure_end-in-Some-clause-rendered : goal.returns-in_err-push_failure_end-in-Some-clause-rendered
 returns-in_err-push_failure_end-in-Some-clause-rendered g c =
     let own = c.args.self.now in
-    let plan = own.wanted.now in
+    let plan = plan_of own.wanted.now in
     let here = state_at any_panel own.machine.page in
     let sheet_is : c.sheet_of-sheet.result ≡ sheet_of plan own.machine.printer here =
     c.sheet_of-sheet.ensures
@@ -109,7 +110,7 @@ returns-in_err-push_failure_end-in-Some-clause-rendered g c =
 pub returns-in_ok-push_whole_end-then-is_behind-clause-rendered : goal.returns-in_ok-push_whole_end-then-is_behind-clause-rendered
 returns-in_ok-push_whole_end-then-is_behind-clause-rendered g c =
     let own = c.args.self.now in
-    let plan = own.wanted.now in
+    let plan = plan_of own.wanted.now in
     let here = state_at any_panel own.machine.page in
     let sheet_is : c.sheet_of-sheet.result ≡ sheet_of plan own.machine.printer here =
     c.sheet_of-sheet.ensures
@@ -131,7 +132,7 @@ returns-in_ok-push_whole_end-then-is_behind-clause-rendered g c =
 pub returns-in_ok-push_whole_end-in-None-clause-rendered : goal.returns-in_ok-push_whole_end-in-None-clause-rendered
 returns-in_ok-push_whole_end-in-None-clause-rendered g c =
     let own = c.args.self.now in
-    let plan = own.wanted.now in
+    let plan = plan_of own.wanted.now in
     let here = state_at any_panel own.machine.page in
     let sheet_is : c.sheet_of-sheet.result ≡ sheet_of plan own.machine.printer here =
     c.sheet_of-sheet.ensures
@@ -153,7 +154,7 @@ returns-in_ok-push_whole_end-in-None-clause-rendered g c =
 pub returns-in_ok-push_failure_end-in-Some-clause-rendered : goal.returns-in_ok-push_failure_end-in-Some-clause-rendered
 returns-in_ok-push_failure_end-in-Some-clause-rendered g c =
     let own = c.args.self.now in
-    let plan = own.wanted.now in
+    let plan = plan_of own.wanted.now in
     let here = state_at any_panel own.machine.page in
     let sheet_is : c.sheet_of-sheet.result ≡ sheet_of plan own.machine.printer here =
     c.sheet_of-sheet.ensures

@@ -6,6 +6,7 @@ use Rattle.page_env.specs.Settings.{state_at}
 use Rattle.renderings.specs.Carriers.PageRendering.{any_panel}
 use Rattle.renderings.proofs.Renderings.{end_none}
 use Rattle.job_pdf.specs.Carriers.Rest.{drawn_from}
+use Rattle.job_pdf.specs.Plan.{plan_of}
 use Rattle.job_pdf.specs.Sheet.{Spot, sheet_of, spot_of}
 use Rattle.job_pdf.proofs.Tellings.{fault_fails}
 use Rattle.job_pdf.proofs.job_pdf.JobPdfRenderer.fault.Goals as goal
@@ -13,21 +14,21 @@ use Rattle.job_pdf.proofs.job_pdf.JobPdfRenderer.fault.Goals as goal
 pub returns-in_err-push_start_if_due-clause-rendered : goal.returns-in_err-push_start_if_due-clause-rendered
 returns-in_err-push_start_if_due-clause-rendered g c =
     let own = c.args.self.now in
-    end_none (drawn_from own.wanted.now own.machine own.document own.is_started)
+    end_none (drawn_from (plan_of own.wanted.now) own.machine own.document own.is_started)
     (λ reading. reading ≡ Stopped [] c.args.fault.place c.args.fault.cause) (g.W.Outlet.state c.args._outlet.now) c.args.kept.now.items
     c.push_start_if_due.new.text.items c.from_residual.result c.from_residual.ensures.0
 
 pub returns-in_err-push_failure_end-clause-rendered : goal.returns-in_err-push_failure_end-clause-rendered
 returns-in_err-push_failure_end-clause-rendered g c =
     let own = c.args.self.now in
-    end_none (drawn_from own.wanted.now own.machine own.document own.is_started)
+    end_none (drawn_from (plan_of own.wanted.now) own.machine own.document own.is_started)
     (λ reading. reading ≡ Stopped [] c.args.fault.place c.args.fault.cause) (g.W.Outlet.state c.args._outlet.now) c.args.kept.now.items
     c.push_failure_end.new.text.items c.from_residual-in_err-push_failure_end.result c.from_residual-in_err-push_failure_end.ensures.0
 
 pub returns-clause-rendered : goal.returns-clause-rendered
 returns-clause-rendered g c =
     let own = c.args.self.now in
-    let plan = own.wanted.now in
+    let plan = plan_of own.wanted.now in
     let here = state_at any_panel own.machine.page in
     let sheet_is : c.sheet_of-sheet.result ≡ sheet_of plan own.machine.printer here =
     c.sheet_of-sheet.ensures
