@@ -6,7 +6,6 @@ use Rattle.pcl_items.specs.declared.fault.LexCause.{LexCause}
 use Rattle.pcl_items.specs.Items.{Entry, Placed, at}
 use Rattle.pcl_lexer.specs.Reading.{Reading, Whole, Stopped}
 use Rattle.page_env.specs.declared.finding.Finding.{Finding}
-use Rattle.page_env.specs.Places.{geometry_of}
 use Rattle.page_env.specs.Settings.{State, state_at}
 use Rattle.page_machine.specs.Run.{Run, Ending, Done, Halts}
 use Rattle.page_machine.specs.MachineState.{MachineState}

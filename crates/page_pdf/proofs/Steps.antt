@@ -1,5 +1,5 @@
 -- Steps of a document, one behind another.
-use Rattle.std.proofs.Common.{◌≡◌, ◌∙◌, ℕ, ◌+◌, ◌-◌, List, [], ◌++◌, Result, Ok, Err, ap, append_assoc, length, subst}
+use Rattle.std.proofs.Common.{◌≡◌, ◌∙◌, ℕ, ◌+◌, ◌-◌, List, [], ◌++◌, Result, Ok, Err, ap, append_assoc, length}
 use Rattle.std.specs.Prelude.{OnOk}
 use Rattle.page_pdf.specs.Document.{HasWritten, Pdf, Written, and_last, and_then, capped, four, opens_page, writes}
 use Rattle.page_pdf.proofs.Counting.{longer}

@@ -5,7 +5,7 @@ use Rattle.std.specs.List.{position}
 use Rattle.std.specs.Option.{option_and_then}
 use Rattle.device_profile.specs.declared.font.FontRequest.{FontRequest}
 use Rattle.page_picture.specs.declared.characters.Repertoire.{Repertoire}
-use Rattle.page_picture.specs.declared.characters.Repertoire.TheVariants.{Ascii, Pc8, Pc850, Roman8, Latin1, Windows}
+use Rattle.page_picture.specs.declared.characters.Repertoire.TheVariants.{Pc8, Pc850}
 use Rattle.page_picture.specs.declared.characters.TheConstants.{WINDOWS_FROM_128}
 use Rattle.page_picture.specs.Marks.{is_bold, is_italic}
 

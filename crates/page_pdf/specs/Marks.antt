@@ -1,5 +1,5 @@
 -- What marks a page, mark by mark.
-use Rattle.std.specs.Prelude.{ℕ, ℤ, ◌*◌, ◌/◌, nat_le, if◌then◌else◌, List, [], ◌∷◌, ◌++◌, length, codes, decimal}
+use Rattle.std.specs.Prelude.{ℕ, ◌*◌, ◌/◌, nat_le, if◌then◌else◌, List, [], ◌∷◌, ◌++◌, length, decimal}
 use Rattle.std.specs.Prelude.{Option, None, Some}
 use Rattle.page_env.specs.declared.mark.Area.{Area}
 use Rattle.page_env.specs.declared.mark.Fill.{Fill}

@@ -1,7 +1,6 @@
 -- What stands round the marks of a page: its setting, its foot, and where a job fails.
 use Rattle.std.specs.Prelude.{ℕ, ℤ, pos, ◌+◌, ◌-ℤ◌, Bool, if◌then◌else◌, List, [], ◌++◌, length, decimal}
 use Rattle.device_profile.specs.declared.geometry.Geometry.{Geometry}
-use Rattle.page_env.specs.declared.mark.Bounds.{Bounds}
 use Rattle.page_picture.specs.Sheet.{letter_size, printable_box}
 use Rattle.page_pdf.specs.declared.mark_parts.MarkPart.TheVariants as marks
 use Rattle.page_pdf.specs.declared.page_parts.PagePart.TheVariants as parts

@@ -1,5 +1,5 @@
 //! What stands before the pages of a document.
-ghost use Rattle.std.specs.Prelude.{◌≡◌, OnOk};
+ghost use Rattle.std.specs.Prelude.{OnOk};
 ghost use Rattle.page_pdf.specs.Document.{
   HasWritten,
   faces_written,

@@ -1,5 +1,5 @@
 -- What is due of the rest of a job, from where a machine stands.
-use Rattle.std.specs.Prelude.{Bool, List, ◌++◌}
+use Rattle.std.specs.Prelude.{Bool, ◌++◌}
 use Rattle.pcl_lexer.specs.Reading.{Reading}
 use Rattle.page_env.specs.Settings.{settings_at, state_at}
 use Rattle.page_machine.specs.MachineState.{MachineState}

@@ -1,4 +1,4 @@
-use Rattle.std.proofs.Common.{◌≡◌, ◌∙◌, ap, refl, []}
+use Rattle.std.proofs.Common.{◌≡◌, ◌∙◌, ap, []}
 use Rattle.pcl_lexer.specs.Reading.{Whole}
 use Rattle.device_profile.specs.Printer.{Printer}
 use Rattle.page_env.specs.declared.page.Page.{Page}
