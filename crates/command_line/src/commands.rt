@@ -44,7 +44,7 @@ const PROGRAM_SHORT_HELP: &str = "Usage: pclcheck <COMMAND>
   survey   all that is refused of jobs, without a verdict
   list     each command of a job
   pages    each mark of a job on a printer
-  picture  a page of a job, drawn
+  picture  a page of a job, drawn; pdf writes all as a document
   notes    what a job that passes leaves to the printer
   plain    a job in its one spelling
   pin      a job that leaves nothing to the panel
