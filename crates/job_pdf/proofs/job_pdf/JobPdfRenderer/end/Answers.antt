@@ -41,8 +41,8 @@ returns-in_err-found-clause-rendered g c =
     c.in_err-found.field-0.0 c.in_err-found.ensures.finishes
     c.from_residual-in_err-found.result c.from_residual-in_err-found.ensures.0
 
-pub returns-in_err-push_whole_end-then-is_behind-clause-rendered : goal.returns-in_err-push_whole_end-then-is_behind-clause-rendered
-returns-in_err-push_whole_end-then-is_behind-clause-rendered g c =
+pub returns-in_err-push_whole_end-clause-rendered : goal.returns-in_err-push_whole_end-clause-rendered
+returns-in_err-push_whole_end-clause-rendered g c =
     let own = c.args.self.now in
     let plan = plan_of own.wanted.now in
     let here = state_at any_panel own.machine.page in
@@ -61,7 +61,7 @@ returns-in_err-push_whole_end-then-is_behind-clause-rendered g c =
     c.in_ok-push_start_if_due.ensures.document
     c.args.place c.finish_on.new.kept.items c.finish_on.new.document
     c.in_ok-found.found c.in_ok-found.ensures.finishes
-    c.from_residual-in_err-push_whole_end-then-is_behind.result c.from_residual-in_err-push_whole_end-then-is_behind.ensures.0
+    c.from_residual-in_err-push_whole_end.result c.from_residual-in_err-push_whole_end.ensures.0
 
 pub returns-in_err-push_whole_end-in-None-clause-rendered : goal.returns-in_err-push_whole_end-in-None-clause-rendered
 returns-in_err-push_whole_end-in-None-clause-rendered g c =
@@ -78,7 +78,7 @@ returns-in_err-push_whole_end-in-None-clause-rendered g c =
     (λ i. record { x = c.place_on-spot.ensures.x i; y = c.place_on-spot.ensures.y i })
     ∙ ap (λ (page : Page). spot_of paper (state_at any_panel page)) c.page-2.ensures in
     end_cuts plan own.machine own.document own.is_started (g.W.Outlet.state c.args.outlet.now)
-    (g.W.Outlet.state c.finish_on.new.outlet) c.args.kept.now.items c.push_start_if_due.new.text.items c.push_whole_end-2.new.text.items
+    (g.W.Outlet.state c.finish_on.new.outlet) c.args.kept.now.items c.push_start_if_due.new.text.items c.push_whole_end-in-None.new.text.items
     c.in_ok-push_start_if_due.ensures.text c.sheet_of-sheet.result sheet_is spot spot_is c.push_start_if_due.new.document
     c.in_ok-push_start_if_due.ensures.document
     c.args.place c.finish_on.new.kept.items c.finish_on.new.document
@@ -107,8 +107,8 @@ returns-in_err-push_failure_end-in-Some-clause-rendered g c =
     c.in_ok-found.found c.in_ok-found.ensures.finishes
     c.from_residual-in_err-push_failure_end-in-Some.result c.from_residual-in_err-push_failure_end-in-Some.ensures.0
 
-pub returns-in_ok-push_whole_end-then-is_behind-clause-rendered : goal.returns-in_ok-push_whole_end-then-is_behind-clause-rendered
-returns-in_ok-push_whole_end-then-is_behind-clause-rendered g c =
+pub returns-then-is_behind-clause-rendered : goal.returns-then-is_behind-clause-rendered
+returns-then-is_behind-clause-rendered g c =
     let own = c.args.self.now in
     let plan = plan_of own.wanted.now in
     let here = state_at any_panel own.machine.page in
@@ -126,7 +126,7 @@ returns-in_ok-push_whole_end-then-is_behind-clause-rendered g c =
     c.in_ok-push_start_if_due.ensures.text c.sheet_of-sheet.result sheet_is spot spot_is c.push_start_if_due.new.document
     c.in_ok-push_start_if_due.ensures.document
     c.args.place c.finish_on.new.kept.items c.finish_on.new.document
-    c.in_ok-found.found c.in_ok-push_whole_end-then-is_behind.ensures c.in_ok-found.ensures.finishes
+    c.in_ok-found.found c.in_ok-push_whole_end.ensures c.in_ok-found.ensures.finishes
     (c.if-is_behind.ensures ∙ ap (is_behind plan.selection) c.page-3.ensures)
 
 pub returns-in_ok-push_whole_end-in-None-clause-rendered : goal.returns-in_ok-push_whole_end-in-None-clause-rendered
@@ -144,7 +144,7 @@ returns-in_ok-push_whole_end-in-None-clause-rendered g c =
     (λ i. record { x = c.place_on-spot.ensures.x i; y = c.place_on-spot.ensures.y i })
     ∙ ap (λ (page : Page). spot_of paper (state_at any_panel page)) c.page-2.ensures in
     end_goes_on plan own.machine own.document own.is_started (g.W.Outlet.state c.args.outlet.now)
-    (g.W.Outlet.state c.finish_on.new.outlet) c.args.kept.now.items c.push_start_if_due.new.text.items c.push_whole_end-2.new.text.items
+    (g.W.Outlet.state c.finish_on.new.outlet) c.args.kept.now.items c.push_start_if_due.new.text.items c.push_whole_end-in-None.new.text.items
     c.in_ok-push_start_if_due.ensures.text c.sheet_of-sheet.result sheet_is spot spot_is c.push_start_if_due.new.document
     c.in_ok-push_start_if_due.ensures.document
     c.args.place c.finish_on.new.kept.items c.finish_on.new.document

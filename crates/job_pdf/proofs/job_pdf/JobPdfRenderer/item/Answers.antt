@@ -41,8 +41,8 @@ returns-in_err-found-clause-rendered g c =
     (drawn_from plan c.step_on.new.machine c.step_on.new.document true) c.in_err-found.field-0.0 c.in_err-found.ensures.steps
     c.from_residual-in_err-found.result c.from_residual-in_err-found.ensures.0
 
-pub returns-in_err-push_whole_end-then-is_behind-clause-rendered : goal.returns-in_err-push_whole_end-then-is_behind-clause-rendered
-returns-in_err-push_whole_end-then-is_behind-clause-rendered g c =
+pub returns-in_err-push_whole_end-clause-rendered : goal.returns-in_err-push_whole_end-clause-rendered
+returns-in_err-push_whole_end-clause-rendered g c =
     let own = c.args.self.now in
     let plan = plan_of own.wanted.now in
     let here = state_at any_panel own.machine.page in
@@ -61,10 +61,10 @@ returns-in_err-push_whole_end-then-is_behind-clause-rendered g c =
     c.in_ok-push_start_if_due.ensures.document
     c.args.place (view c.args.item.now) c.step_on.new.machine c.step_on.new.kept.items c.step_on.new.document
     c.in_ok-found.found (drawn_from plan c.step_on.new.machine c.step_on.new.document true) c.in_ok-found.ensures.steps
-    c.from_residual-in_err-push_whole_end-then-is_behind.result c.from_residual-in_err-push_whole_end-then-is_behind.ensures.0
+    c.from_residual-in_err-push_whole_end.result c.from_residual-in_err-push_whole_end.ensures.0
 
-pub returns-in_ok-push_whole_end-then-is_behind-clause-rendered : goal.returns-in_ok-push_whole_end-then-is_behind-clause-rendered
-returns-in_ok-push_whole_end-then-is_behind-clause-rendered g c =
+pub returns-then-is_behind-clause-rendered : goal.returns-then-is_behind-clause-rendered
+returns-then-is_behind-clause-rendered g c =
     let own = c.args.self.now in
     let plan = plan_of own.wanted.now in
     let here = state_at any_panel own.machine.page in
@@ -82,7 +82,7 @@ returns-in_ok-push_whole_end-then-is_behind-clause-rendered g c =
     c.in_ok-push_start_if_due.ensures.text c.sheet_of-sheet.result sheet_is spot spot_is c.push_start_if_due.new.document
     c.in_ok-push_start_if_due.ensures.document
     c.args.place (view c.args.item.now) c.step_on.new.machine c.step_on.new.kept.items c.step_on.new.document
-    c.in_ok-found.found c.in_ok-push_whole_end-then-is_behind.ensures c.in_ok-found.ensures.steps
+    c.in_ok-found.found c.in_ok-push_whole_end.ensures c.in_ok-found.ensures.steps
     (c.if-is_behind.ensures ∙ ap (is_behind plan.selection) c.page-3.ensures)
 
 pub returns-in_err-push_failure_end-in-Some-clause-rendered : goal.returns-in_err-push_failure_end-in-Some-clause-rendered
