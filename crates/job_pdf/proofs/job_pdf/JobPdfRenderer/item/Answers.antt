@@ -15,8 +15,10 @@ use Rattle.job_pdf.proofs.job_pdf.JobPdfRenderer.item.Goals as goal
 pub returns-in_err-push_start_if_due-clause-rendered : goal.returns-in_err-push_start_if_due-clause-rendered
 returns-in_err-push_start_if_due-clause-rendered g c =
     let own = c.args.self.now in
-    let rendering = drawn_from (plan_of own.wanted.now) own.machine own.document own.is_started in
-    item_none rendering rendering (at c.args.place (view c.args.item.now)) (g.W.Outlet.state c.args.outlet.now) c.args.kept.now.items
+    let plan = plan_of own.wanted.now in
+    item_none (drawn_from plan own.machine own.document own.is_started)
+    (drawn_from plan own.machine c.push_start_if_due.new.document own.is_started) (at c.args.place (view c.args.item.now))
+    (g.W.Outlet.state c.args.outlet.now) c.args.kept.now.items
     c.push_start_if_due.new.text.items c.from_residual.result c.from_residual.ensures.0
 
 pub returns-in_err-found-clause-rendered : goal.returns-in_err-found-clause-rendered
@@ -60,7 +62,7 @@ returns-in_err-push_whole_end-clause-rendered g c =
     c.in_ok-push_start_if_due.ensures.text c.sheet_of-sheet.result sheet_is spot spot_is c.push_start_if_due.new.document
     c.in_ok-push_start_if_due.ensures.document
     c.args.place (view c.args.item.now) c.step_on.new.machine c.step_on.new.kept.items c.step_on.new.document
-    c.in_ok-found.found (drawn_from plan c.step_on.new.machine c.step_on.new.document true) c.in_ok-found.ensures.steps
+    c.in_ok-found.found (drawn_from plan c.step_on.new.machine c.push_whole_end.new.document true) c.in_ok-found.ensures.steps
     c.from_residual-in_err-push_whole_end.result c.from_residual-in_err-push_whole_end.ensures.0
 
 pub returns-then-is_behind-clause-rendered : goal.returns-then-is_behind-clause-rendered
@@ -104,7 +106,7 @@ returns-in_err-push_failure_end-in-Some-clause-rendered g c =
     c.in_ok-push_start_if_due.ensures.text c.sheet_of-sheet.result sheet_is spot spot_is c.push_start_if_due.new.document
     c.in_ok-push_start_if_due.ensures.document
     c.args.place (view c.args.item.now) c.step_on.new.machine c.step_on.new.kept.items c.step_on.new.document
-    c.in_ok-found.found (drawn_from plan c.step_on.new.machine c.step_on.new.document true) c.in_ok-found.ensures.steps
+    c.in_ok-found.found (drawn_from plan c.step_on.new.machine c.push_failure_end.new.document true) c.in_ok-found.ensures.steps
     c.from_residual-in_err-push_failure_end-in-Some.result c.from_residual-in_err-push_failure_end-in-Some.ensures.0
 
 pub returns-in-None-clause-rendered : goal.returns-in-None-clause-rendered
