@@ -78,7 +78,8 @@ returns-in_err-push_whole_end-in-None-clause-rendered g c =
     (λ i. record { x = c.place_on-spot.ensures.x i; y = c.place_on-spot.ensures.y i })
     ∙ ap (λ (page : Page). spot_of paper (state_at any_panel page)) c.page-2.ensures in
     end_cuts plan own.machine own.document own.is_started (g.W.Outlet.state c.args.outlet.now)
-    (g.W.Outlet.state c.finish_on.new.outlet) c.args.kept.now.items c.push_start_if_due.new.text.items c.push_whole_end-in-None.new.text.items
+    (g.W.Outlet.state c.finish_on.new.outlet) c.args.kept.now.items c.push_start_if_due.new.text.items
+    c.push_whole_end-in-None.new.text.items
     c.in_ok-push_start_if_due.ensures.text c.sheet_of-sheet.result sheet_is spot spot_is c.push_start_if_due.new.document
     c.in_ok-push_start_if_due.ensures.document
     c.args.place c.finish_on.new.kept.items c.finish_on.new.document
@@ -144,7 +145,8 @@ returns-in_ok-push_whole_end-in-None-clause-rendered g c =
     (λ i. record { x = c.place_on-spot.ensures.x i; y = c.place_on-spot.ensures.y i })
     ∙ ap (λ (page : Page). spot_of paper (state_at any_panel page)) c.page-2.ensures in
     end_goes_on plan own.machine own.document own.is_started (g.W.Outlet.state c.args.outlet.now)
-    (g.W.Outlet.state c.finish_on.new.outlet) c.args.kept.now.items c.push_start_if_due.new.text.items c.push_whole_end-in-None.new.text.items
+    (g.W.Outlet.state c.finish_on.new.outlet) c.args.kept.now.items c.push_start_if_due.new.text.items
+    c.push_whole_end-in-None.new.text.items
     c.in_ok-push_start_if_due.ensures.text c.sheet_of-sheet.result sheet_is spot spot_is c.push_start_if_due.new.document
     c.in_ok-push_start_if_due.ensures.document
     c.args.place c.finish_on.new.kept.items c.finish_on.new.document
