@@ -4,7 +4,6 @@ ghost use Rattle.job_reports.specs.JobSentences.{fails_at};
 ghost use Rattle.job_pdf.specs.Plan.{plan_of};
 ghost use Rattle.job_pdf.specs.Telling.{sentence, told_failure, told_whole, what_prints};
 ghost use Rattle.job_pdf.specs.Telling.{without_line_end};
-ghost use Rattle.verdict.specs.Failing.{failing};
 
 use crate::wanted::WantedPages;
 use job_reports::{Report, push_job_sentence, push_named_first};
@@ -12,7 +11,7 @@ use preflight::Judgement;
 use requests::DrawnPages;
 use shown_bytes::push_number;
 use std::alloc::{AllocError, Allocator};
-use verdict::Failure;
+use verdict::{Failure, Verdict};
 
 /// A line without its end.
 fn without_line_end(line: &[u8]) -> &[u8]
@@ -24,22 +23,22 @@ fn without_line_end(line: &[u8]) -> &[u8]
     }
 }
 
-/// The sentence on a failure on the page of this number, as a line.
+/// The sentence on a verdict on the page of this number, as a line.
 fn sentence_line<A: Allocator + Copy>(
     alloc: A,
     wanted: &WantedPages<'_, A>,
     page: u64,
-    failure: Failure,
+    verdict: Verdict,
 ) -> Result<Vec<u8, A>, AllocError>
     ensures { IfOk result (λ line. line.items ≡ sentence wanted.now.job.now wanted.now.printers.now
-        (fails_at (Some page) None) (failing failure)) }
+        (fails_at (Some page) None) verdict) }
 {
     let mut line = Vec::new(alloc);
     let report = Report {
         printers: wanted.printers,
         job: wanted.job,
         answer: Ok(Judgement {
-            verdict: failure.verdict(),
+            verdict,
             failing_item: None,
             page: Some(page),
             cursor: None,
@@ -60,7 +59,7 @@ pub(crate) fn told_failure<A: Allocator + Copy>(
 ) -> Result<Vec<u8, A>, AllocError>
     ensures { IfOk result (λ told. told.items ≡ told_failure (plan_of wanted.now) page failure) }
 {
-    let line = sentence_line(alloc, wanted, page, failure)?;
+    let line = sentence_line(alloc, wanted, page, failure.verdict())?;
     let mut told = Vec::new(alloc);
     told.extend_from_slice(without_line_end(line.as_slice()))?;
     Ok(told)

@@ -28,9 +28,12 @@ printable_text page =
     page_part parts.Printable ++ box_figures (printable_box page) ++ mark_part marks.Rectangle
     ++ mark_part marks.BoxEnd
 
+unfoldable pub outlines_text : Geometry → List ℕ
+outlines_text page = logical_text page ++ printable_text page
+
 -- these, where they are asked for
 abbrev pub due_outlines : Geometry → (is_proof : Bool) → List ℕ
-due_outlines page is_proof = if is_proof then logical_text page ++ printable_text page else []
+due_outlines page is_proof = if is_proof then outlines_text page else []
 
 abbrev pub page_start : Geometry → (is_proof : Bool) → List ℕ
 page_start page is_proof = setting_text page ++ due_outlines page is_proof

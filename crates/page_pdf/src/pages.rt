@@ -8,6 +8,7 @@ ghost use Rattle.page_pdf.specs.Pages.{
   failure_text,
   foot_text,
   logical_text,
+  outlines_text,
   page_end,
   page_start,
   printable_text,
@@ -54,7 +55,16 @@ fn push_setting<A: Allocator>(text: &mut Vec<u8, A>, page: &Geometry) -> Result<
     text.extend_from_slice(PagePart::StartEnd.bytes())
 }
 
-/// Appends the logical page and the printable area, where they are asked for.
+/// Appends the logical page and the printable area.
+#[tactic(auto, unfolding(crate::specs::Pages::outlines_text))]
+fn push_outlines<A: Allocator>(text: &mut Vec<u8, A>, page: &Geometry) -> Result<(), AllocError>
+    ensures { OnOk result (text.new.items ≡ text.old.items ++ outlines_text page.now) }
+{
+    push_logical(text, page)?;
+    push_printable(text, page)
+}
+
+/// Appends these, where they are asked for.
 fn push_due_outlines<A: Allocator>(
     text: &mut Vec<u8, A>,
     page: &Geometry,
@@ -65,8 +75,7 @@ fn push_due_outlines<A: Allocator>(
     if !is_proof {
         return Ok(());
     }
-    push_logical(text, page)?;
-    push_printable(text, page)
+    push_outlines(text, page)
 }
 
 /// Appends the logical page, dashed.
