@@ -54,16 +54,16 @@ returns-in-Err-Found-clause-steps g c =
     let led = led_all g.W.Outlet.state _ sink took.events c.requires.working took.leads in
     let same_outlet = led.same_outlet in
     let same_kept = led.same_kept in
-    let outlet_is : sink.outlet.now ≡ c.outlet-in-Err-Found-1.given.0 = search rules in
-    let kept_is : sink.kept.now ≡ c.kept-in-Err-Found-1.given.0 = search rules in
+    let outlet_is : sink.outlet.now ≡ c.in-Err-Found.outlet-in-Found-1-own.given.0 = search rules in
+    let kept_is : sink.kept.now ≡ c.in-Err-Found.kept-in-Found-1-own.given.0 = search rules in
     let same_document = led.same_document in
-    let document_is : sink.document.now ≡ c.document-in-Err-Found-1.given.0 = search rules in
+    let document_is : sink.document.now ≡ c.in-Err-Found.document-in-Found-1-own.given.0 = search rules in
     same_three
     (λ outlet kept document.
     Draws c.args.sheet.now ((item_of c.args.machine.now (view c.args.item.now)).run any_panel) (Halts c.in-Err-Found.finding)
     (g.W.Outlet.state c.args.outlet.now) (g.W.Outlet.state outlet) c.args.kept.now.items kept.items c.args.document.now document)
-    sink.outlet.now c.outlet-in-Err-Found-1.given.0 sink.kept.now c.kept-in-Err-Found-1.given.0 sink.document.now
-    c.document-in-Err-Found-1.given.0
+    sink.outlet.now c.in-Err-Found.outlet-in-Found-1-own.given.0 sink.kept.now c.in-Err-Found.kept-in-Found-1-own.given.0 sink.document.now
+    c.in-Err-Found.document-in-Found-1-own.given.0
     outlet_is kept_is document_is
     (draws_all g.W.Outlet.state _ sink (item_of c.args.machine.now (view c.args.item.now)).run c.requires.working
     (λ panel. (Halts c.in-Err-Found.finding)) took)
@@ -81,7 +81,7 @@ returns-in-Err-Found-clause-status g c =
     let led = led_all g.W.Outlet.state _ sink took.events c.requires.working took.leads in
     let same_outlet = led.same_outlet in
     let same_kept = led.same_kept in
-    let outlet_is : sink.outlet.now ≡ c.outlet-in-Err-Found-1.given.0 = search rules in
+    let outlet_is : sink.outlet.now ≡ c.in-Err-Found.outlet-in-Found-1-own.given.0 = search rules in
     subst (λ outlet. (g.W.Outlet.state outlet).failed ≡ false) outlet_is led.working
 
 pub returns-in-Err-Refused-clause-steps : goal.returns-in-Err-Refused-clause-steps
