@@ -11,14 +11,15 @@ pub built : (nothing text slice more : List ℕ) → nothing ≡ [] → text ≡
 built nothing text slice more none appended lent = lent ∙ (appended ∙ ap (λ l. l ++ more) none)
 
 -- a text was appended, and counted
-pub counted : (more text new : List ℕ) (old pdf : Pdf) (before after : ℕ) → new ≡ text ++ more → before ≡ length text →
-    after ≡ length new → pdf ≡ record old { written = capped (old.written + (after - before)) } → HasWritten (writes more old) text new pdf
-counted more text new old pdf before after appended before_is after_is pdf_is = record {
+pub counted : (more text new : List ℕ) (old pdf : Pdf) (old_len new_len : ℕ) → new ≡ text ++ more → old_len ≡ length text →
+    new_len ≡ length new → pdf ≡ record old { written = capped (old.written + (new_len - old_len)) } →
+    HasWritten (writes more old) text new pdf
+counted more text new old pdf old_len new_len appended old_is new_is pdf_is = record {
   text_is = appended;
   pdf_is =
       pdf_is
-      ∙ (ap (λ (n : ℕ). record old { written = capped (old.written + (n - before)) }) after_is
-      ∙ (ap (λ (n : ℕ). record old { written = capped (old.written + (length new - n)) }) before_is
+      ∙ (ap (λ (n : ℕ). record old { written = capped (old.written + (n - old_len)) }) new_is
+      ∙ (ap (λ (n : ℕ). record old { written = capped (old.written + (length new - n)) }) old_is
       ∙ ap (λ (n : ℕ). record old { written = capped (old.written + n) }) (longer text more new appended)));
 }
 

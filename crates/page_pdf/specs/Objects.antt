@@ -52,17 +52,17 @@ failing_words = object_part parts.LabelFails
 
 -- the numbers of the page and of the label of the page that comes behind so many others
 abbrev pub page_object : ℕ → ℕ
-page_object before = 25 + 4 * before
+page_object index = 25 + 4 * index
 
 abbrev pub label_object : ℕ → ℕ
-label_object before = 26 + 4 * before
+label_object index = 26 + 4 * index
 
 unfoldable pub page_reference : ℕ → List ℕ
-page_reference before = decimal (page_object before) ++ object_part parts.Reference
+page_reference index = decimal (page_object index) ++ object_part parts.Reference
 
 unfoldable pub label_reference : ℕ → List ℕ
-label_reference before =
-    decimal before ++ object_part parts.Between ++ decimal (label_object before) ++ object_part parts.Reference
+label_reference index =
+    decimal index ++ object_part parts.Between ++ decimal (label_object index) ++ object_part parts.Reference
 
 -- of so many pages
 abbrev pub page_references : ℕ → List ℕ

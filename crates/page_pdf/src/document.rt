@@ -162,12 +162,12 @@ impl<A: Allocator + Copy> Document<A> {
     }
 
     /// Counts what a text that was so long has more.
-    fn count<B: Allocator>(&mut self, before: usize, text: &Vec<u8, B>)
+    fn count<B: Allocator>(&mut self, old_len: usize, text: &Vec<u8, B>)
         ensures { self.new ≡ record self.old {
-          written = capped (self.old.written + (vec_len text.now - before));
+          written = capped (self.old.written + (vec_len text.now - old_len));
         } }
     {
-        self.written = written_behind(self.written, before, text.len());
+        self.written = written_behind(self.written, old_len, text.len());
     }
 
     /// An object begins here.
@@ -187,9 +187,9 @@ impl<A: Allocator + Copy> Document<A> {
         ensures { OnOk result
             (HasWritten (writes more.now self.old) text.old.items text.new.items self.new) }
     {
-        let before = text.len();
+        let old_len = text.len();
         text.extend_from_slice(more)?;
-        self.count(before, text);
+        self.count(old_len, text);
         Ok(())
     }
 
@@ -204,9 +204,9 @@ impl<A: Allocator + Copy> Document<A> {
             (HasWritten (object number body.now self.old) text.old.items text.new.items self.new) }
     {
         self.begin_object()?;
-        let before = text.len();
+        let old_len = text.len();
         push_object_text(text, number, body)?;
-        self.count(before, text);
+        self.count(old_len, text);
         Ok(())
     }
 
@@ -232,9 +232,9 @@ impl<A: Allocator + Copy> Document<A> {
     {
         let number = self.next_object();
         self.begin_object()?;
-        let before = text.len();
+        let old_len = text.len();
         push_content_start(text, number)?;
-        self.count(before, text);
+        self.count(old_len, text);
         Ok(())
     }
 
@@ -266,9 +266,9 @@ impl<A: Allocator + Copy> Document<A> {
             (writes (page_start sheet.now.paper sheet.now.is_proof) self.old)
             text.old.items text.new.items self.new) }
     {
-        let before = text.len();
+        let old_len = text.len();
         push_page_start(text, &sheet.paper, sheet.is_proof)?;
-        self.count(before, text);
+        self.count(old_len, text);
         Ok(())
     }
 
@@ -311,9 +311,9 @@ impl<A: Allocator + Copy> Document<A> {
             text.old.items text.new.items self.new) }
     {
         self.begin_if_due(text, sheet)?;
-        let before = text.len();
+        let old_len = text.len();
         push_mark(text, mark)?;
-        self.count(before, text);
+        self.count(old_len, text);
         Ok(())
     }
 
@@ -334,9 +334,9 @@ impl<A: Allocator + Copy> Document<A> {
             (writes (page_end self.old.page sheet.now.is_proof) self.old)
             text.old.items text.new.items self.new) }
     {
-        let before = text.len();
+        let old_len = text.len();
         push_page_end(text, self.page(), sheet.is_proof)?;
-        self.count(before, text);
+        self.count(old_len, text);
         Ok(())
     }
 
@@ -436,9 +436,9 @@ impl<A: Allocator + Copy> Document<A> {
             (writes (failed_text sheet.now.paper spot.x spot.y sentence.now) self.old)
             text.old.items text.new.items self.new) }
     {
-        let before = text.len();
+        let old_len = text.len();
         push_failed(text, &sheet.paper, spot, sentence)?;
-        self.count(before, text);
+        self.count(old_len, text);
         Ok(())
     }
 

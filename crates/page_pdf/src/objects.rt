@@ -120,23 +120,23 @@ pub(crate) fn push_label_body<A: Allocator>(
 
 /// Appends the number of the page that comes behind so many others.
 #[tactic(auto, unfolding(crate::specs::Objects::page_reference))]
-fn push_page_reference<A: Allocator>(text: &mut Vec<u8, A>, before: u64) -> Result<(), AllocError>
-    requires { before ≤ 2 ^ 61 }
-    ensures { OnOk result (text.new.items ≡ text.old.items ++ page_reference before) }
+fn push_page_reference<A: Allocator>(text: &mut Vec<u8, A>, index: u64) -> Result<(), AllocError>
+    requires { index ≤ 2 ^ 61 }
+    ensures { OnOk result (text.new.items ≡ text.old.items ++ page_reference index) }
 {
-    push_number(text, 25 + 4 * before)?;
+    push_number(text, 25 + 4 * index)?;
     text.extend_from_slice(ObjectPart::Reference.bytes())
 }
 
 /// Appends that of its label.
 #[tactic(auto, unfolding(crate::specs::Objects::label_reference))]
-fn push_label_reference<A: Allocator>(text: &mut Vec<u8, A>, before: u64) -> Result<(), AllocError>
-    requires { before ≤ 2 ^ 61 }
-    ensures { OnOk result (text.new.items ≡ text.old.items ++ label_reference before) }
+fn push_label_reference<A: Allocator>(text: &mut Vec<u8, A>, index: u64) -> Result<(), AllocError>
+    requires { index ≤ 2 ^ 61 }
+    ensures { OnOk result (text.new.items ≡ text.old.items ++ label_reference index) }
 {
-    push_number(text, before)?;
+    push_number(text, index)?;
     text.extend_from_slice(ObjectPart::Between.bytes())?;
-    push_number(text, 26 + 4 * before)?;
+    push_number(text, 26 + 4 * index)?;
     text.extend_from_slice(ObjectPart::Reference.bytes())
 }
 
@@ -145,8 +145,8 @@ fn push_page_references<A: Allocator>(text: &mut Vec<u8, A>, count: u64) -> Resu
     requires { count ≤ 2 ^ 61 }
     ensures { OnOk result (text.new.items ≡ text.old.items ++ page_references count) }
 {
-    for before in 0..count {
-        push_page_reference(text, before)?;
+    for index in 0..count {
+        push_page_reference(text, index)?;
     }
     Ok(())
 }
@@ -156,8 +156,8 @@ fn push_label_references<A: Allocator>(text: &mut Vec<u8, A>, count: u64) -> Res
     requires { count ≤ 2 ^ 61 }
     ensures { OnOk result (text.new.items ≡ text.old.items ++ label_references count) }
 {
-    for before in 0..count {
-        push_label_reference(text, before)?;
+    for index in 0..count {
+        push_label_reference(text, index)?;
     }
     Ok(())
 }

@@ -14,5 +14,5 @@ returns g c =
     (λ (number : ℕ). HasWritten (writes (content_start number) (begins_object c.args.self.now)) old new.items c.count.new.self)
     c.next_object-number.ensures.value
     (subst (λ (begun : Pdf). HasWritten (writes more begun) old new.items c.count.new.self) c.in_ok-begin_object.ensures
-    (counted more old new.items c.begin_object.new.self c.count.new.self c.len-before.result (vec_len new)
-    c.in_ok-push_content_start.ensures (c.len-before.ensures ∙ c.args.text.now.ok.0) new.ok.0 c.count.ensures))
+    (counted more old new.items c.begin_object.new.self c.count.new.self c.len-old_len.result (vec_len new)
+    c.in_ok-push_content_start.ensures (c.len-old_len.ensures ∙ c.args.text.now.ok.0) new.ok.0 c.count.ensures))

@@ -14,5 +14,5 @@ returns g c =
     let more = mark_text (shape_of c.args.mark.now) in
     both_written (page_due c.args.sheet.now c.args.self.now) (writes more) c.args.text.now.items mid.items new.items
     c.begin_if_due.new.self c.count.new.self c.in_ok-begin_if_due.ensures
-    (counted more mid.items new.items c.begin_if_due.new.self c.count.new.self c.len-before.result (vec_len new)
-    c.in_ok-push_mark.ensures (c.len-before.ensures ∙ mid.ok.0) new.ok.0 c.count.ensures)
+    (counted more mid.items new.items c.begin_if_due.new.self c.count.new.self c.len-old_len.result (vec_len new)
+    c.in_ok-push_mark.ensures (c.len-old_len.ensures ∙ mid.ok.0) new.ok.0 c.count.ensures)

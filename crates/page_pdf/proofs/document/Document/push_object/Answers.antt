@@ -11,5 +11,5 @@ returns g c =
     let more = object_text c.args.number c.args.body.now in
     subst (λ (begun : Pdf). HasWritten (writes more begun) c.args.text.now.items new.items c.count.new.self)
     c.in_ok-begin_object.ensures
-    (counted more c.args.text.now.items new.items c.begin_object.new.self c.count.new.self c.len-before.result (vec_len new)
-    c.in_ok-push_object_text.ensures (c.len-before.ensures ∙ c.args.text.now.ok.0) new.ok.0 c.count.ensures)
+    (counted more c.args.text.now.items new.items c.begin_object.new.self c.count.new.self c.len-old_len.result (vec_len new)
+    c.in_ok-push_object_text.ensures (c.len-old_len.ensures ∙ c.args.text.now.ok.0) new.ok.0 c.count.ensures)

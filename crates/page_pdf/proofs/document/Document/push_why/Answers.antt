@@ -9,5 +9,5 @@ returns g c =
     let new = c.push_failed.new.text in
     let spot = c.args.spot in
     counted (failed_text c.args.sheet.now.paper spot.x spot.y c.args.sentence.now) c.args.text.now.items new.items c.args.self.now
-    c.count.new.self c.len-before.result (vec_len new) c.in_ok-push_failed.ensures (c.len-before.ensures ∙ c.args.text.now.ok.0) new.ok.0
+    c.count.new.self c.len-old_len.result (vec_len new) c.in_ok-push_failed.ensures (c.len-old_len.ensures ∙ c.args.text.now.ok.0) new.ok.0
     c.count.ensures
