@@ -100,6 +100,12 @@ def line_of_text(number, line):
     return bytes(32 if i % 6 == 5 else 33 + (number + line + i) % 94 for i in range(length))
 
 
+def dense(number):
+    """50 lines of 80 characters, none of them a space. The page stays open."""
+    for line in range(50):
+        yield bytes(33 + (number + line + i) % 94 for i in range(80)) + CR_LF
+
+
 def raster(number):
     """600 rows of 40 to 300 bytes, as of a scanned form, a third of them blank at both ends."""
     yield b"\x1b*t300R\x1b*r0F" + to_units(0, 300) + b"\x1b*r1A"

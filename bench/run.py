@@ -5,6 +5,7 @@
     python3 bench/run.py --commands          the commands alone
     python3 bench/run.py --many              many jobs in one run alone
     python3 bench/run.py --pictures          pictures of pages of many marks alone
+    python3 bench/run.py --reports           reports of many jobs alone
     python3 bench/run.py --only lines        one kind; the option may come often
     python3 bench/run.py --size 32           jobs of 32 MiB
     python3 bench/run.py --program PATH      another build of the program
@@ -34,8 +35,10 @@ depth and macro memory. The script stops where one does not.
   is.
 - Many jobs: 2,000 jobs of the same kind, each of whole pages and at least 4,096 bytes, are checked
   in one run for two printers, and beside it one job that is their bytes one behind another. More a
-  job: what the run over many takes longer, for each of its jobs. The last row is of the same run
-  in a document, each job with the picture of its first page.
+  job: what the run over many takes longer, for each of its jobs.
+- Reports: 200 jobs, each of whole pages and at least 4,096 bytes, are told in a document of HTML,
+  each with the picture of its first page, or of the one on which it fails. All is given a job, and
+  the document is thrown away.
 """
 
 import argparse
@@ -52,7 +55,7 @@ from pathlib import Path
 
 sys.dont_write_bytecode = True
 
-from made_jobs import KINDS, RESET, characters_of_page, rows_of_page   # noqa: E402
+from made_jobs import KINDS, RESET, characters_of_page, dense, rows_of_page   # noqa: E402
 
 ROOT = Path(__file__).resolve().parent.parent
 PROGRAM = ROOT / "crates" / "pclcheck" / "out" / "pclcheck"
@@ -106,6 +109,15 @@ KIND_OF_COMMANDS = "mix"
 MANY_JOBS = 2000
 SIZE_OF_MANY = 4096
 PRINTERS_OF_MANY = 2
+
+# How many jobs a report has. The jobs by what they are made of, how they end, and the status.
+JOBS_OF_REPORT = 200
+REPORTS = {
+    "forms": (KINDS["mix"], b"", 0),
+    "words": (KINDS["words"], b"", 0),
+    "text": (dense, b"", 0),
+    "text, failing": (dense, b"\x1b(s9Q", 1),
+}
 
 # How many marks the pages have that are drawn, an eighth and the whole of them.
 CHARACTERS_OF_PAGE = (100_000, 800_000)
@@ -202,12 +214,13 @@ class Run:
 
 @dataclass(frozen=True)
 class ManyRun:
-    """A check of the jobs that a file of names has, in one run. Where all pass, its status is 0."""
+    """A check of the jobs that a file of names has, in one run, and its status."""
 
     names: Path
     jobs: int
     size: int
     form: str = "line"
+    status: int = 0
 
     def words(self):
         """The words behind the program's name."""
@@ -219,40 +232,37 @@ class ManyRun:
         return subprocess.DEVNULL
 
     def require_pass(self, status, _output):
-        """Fails where a job does not pass."""
-        if status != 0:
-            raise BenchError(f"one of {self.jobs} jobs does not pass check: status {status}")
+        """Fails where a job is not judged as it should be."""
+        if status != self.status:
+            raise BenchError(f"one of {self.jobs} jobs is judged otherwise: status {status}")
 
 
 def write_many(folder):
     """Writes jobs of one kind, one more with the bytes of all, and for each run a file of names."""
-    whole = Path(folder) / "whole.pcl"
-    paths, size = [], 0
+    jobs = small_jobs(KINDS[KIND_OF_COMMANDS], MANY_JOBS)
+    return write_jobs(folder, "many", jobs), write_jobs(folder, "one", [b"".join(jobs)])
+
+
+def small_jobs(maker, count, last=b""):
+    """So many jobs of whole pages, each of so many bytes at least, with this behind its pages."""
     pages = itertools.count()
-    with whole.open("wb") as file:
-        for number in range(MANY_JOBS):
-            job = small_job(pages)
-            path = Path(folder) / f"{number}.pcl"
-            path.write_bytes(job)
-            file.write(job)
-            paths.append(path)
-            size += len(job)
-    return names_file(folder, "many", paths, size), names_file(folder, "one", [whole], size)
+    jobs = []
+    for _ in range(count):
+        job = RESET
+        while len(job) < SIZE_OF_MANY:
+            job += b"".join(maker(next(pages)))
+        jobs.append(job + last + RESET)
+    return jobs
 
 
-def small_job(pages):
-    """A job of the next whole pages, of so many bytes at least."""
-    job = RESET
-    while len(job) < SIZE_OF_MANY:
-        job += b"".join(KINDS[KIND_OF_COMMANDS](next(pages)))
-    return job + RESET
-
-
-def names_file(folder, name, paths, size):
-    """The run over these jobs."""
+def write_jobs(folder, name, jobs):
+    """Writes jobs and a file of their names: the run over them."""
+    paths = [Path(folder) / f"{name}_{number}.pcl" for number in range(len(jobs))]
+    for path, job in zip(paths, jobs):
+        path.write_bytes(job)
     names = Path(folder) / f"{name}.names"
     names.write_bytes(b"".join(os.fsencode(path) + b"\0" for path in paths))
-    return ManyRun(names, len(paths), size)
+    return ManyRun(names, len(paths), sum(map(len, jobs)))
 
 
 @dataclass(frozen=True)
@@ -318,6 +328,12 @@ class Program:
                 output = process.stdout.read() if process.stdout else None
                 run.require_pass(process.returncode, output)
         return peak / 1024
+
+    def bytes_written(self, run):
+        """How many bytes the program writes on standard output."""
+        words = [str(self.path), *run.words()]
+        with subprocess.Popen(words, stdout=subprocess.PIPE) as process:
+            return sum(map(len, iter(lambda: process.stdout.read(MEBIBYTE), b"")))
 
     def run_counted(self, run):
         """Runs the program under callgrind, and gives the file of what that counted."""
@@ -403,11 +419,18 @@ COLUMNS_OF_PICTURES = {
 
 COLUMNS_OF_MANY = {
     "Jobs": "<4",
-    "Form": "<4",
     "Printers": ">8",
     "Bytes": ">9",
     "Seconds": ">7",
     "More a job": ">10",
+    "Peak memory": ">11",
+}
+
+COLUMNS_OF_REPORTS = {
+    "Jobs": "<13",
+    "Bytes": ">5",
+    "Milliseconds": ">12",
+    "Bytes written": ">13",
     "Peak memory": ">11",
 }
 
@@ -489,12 +512,24 @@ def print_many(program, folder):
     print_head(COLUMNS_OF_MANY)
     many, one = write_many(folder)
     alone = program.best_seconds(one)
-    for run in (one, many, replace(many, form="html")):
+    for run in (one, many):
         seconds = alone if run is one else program.best_seconds(run)
         more = "" if run is one else f"{1000 * (seconds - alone) / run.jobs:.3f} ms"
         memory = mebibytes(program.peak_memory(run))
         numbers = [run.size, f"{seconds:.2f}", more, memory]
-        print_row(COLUMNS_OF_MANY, [run.jobs, run.form, PRINTERS_OF_MANY, *numbers])
+        print_row(COLUMNS_OF_MANY, [run.jobs, PRINTERS_OF_MANY, *numbers])
+
+
+def print_reports(program, folder):
+    """Prints what reports of many jobs cost, for each job."""
+    print_head(COLUMNS_OF_REPORTS)
+    for name, (maker, last, status) in REPORTS.items():
+        jobs = write_jobs(folder, name, small_jobs(maker, JOBS_OF_REPORT, last))
+        run = replace(jobs, form="html", status=status)
+        milliseconds = 1000 * program.best_seconds(run) / run.jobs
+        written = program.bytes_written(run) // run.jobs
+        numbers = [run.size // run.jobs, hundredths(milliseconds), written]
+        print_row(COLUMNS_OF_REPORTS, [name, *numbers, mebibytes(program.peak_memory(run))])
 
 
 def print_pictures(program, folder):
@@ -560,6 +595,7 @@ def arguments():
     parser.add_argument("--commands", action="store_true", help="the commands alone")
     parser.add_argument("--many", action="store_true", help="many jobs in one run alone")
     parser.add_argument("--pictures", action="store_true", help="pictures of full pages alone")
+    parser.add_argument("--reports", action="store_true", help="reports of many jobs alone")
     parser.add_argument("--profile", action="store_true", help="the functions that cost most")
     return parser.parse_args()
 
@@ -573,7 +609,8 @@ def print_all(program, folder, words):
             print_profile(program, folder, kind)
         return
     print(f"Processor: {processor()}\n")
-    is_whole = not (words.commands or words.many or words.pictures or words.only)
+    parts = (words.commands, words.many, words.pictures, words.reports, words.only)
+    is_whole = not any(parts)
     tables = []
     if words.only or is_whole:
         programs = [program, Program(words.against.resolve())] if words.against else [program]
@@ -584,6 +621,8 @@ def print_all(program, folder, words):
         tables.append(lambda: print_many(program, folder))
     if words.pictures or is_whole:
         tables.append(lambda: print_pictures(program, folder))
+    if words.reports or is_whole:
+        tables.append(lambda: print_reports(program, folder))
     for number, table in enumerate(tables):
         if number:
             print()

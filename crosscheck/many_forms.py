@@ -9,7 +9,7 @@ from many_due import Told
 from many_names import cut, escaped, sentenced, undone, unescaped
 from many_notes import note_text
 
-MOST_OF_NAME, MOST_OF_CAUSE, MOST = 500, 200, 1000
+MOST_OF_NAME, MOST_OF_CAUSE, MOST = 500, 200, 1200
 PLAIN = re.compile(rb"[ -~]*")
 SHOWN = re.compile("[ -~\u00a0-\U0010ffff]*")
 # A sentence behind who says no: the item that a job fails at, and what is wrong in words.
@@ -50,8 +50,8 @@ def phrase(told: Told, command: Optional[str]) -> Tuple[bytes, bytes]:
         return subject + b" prints this job (pages=%d marks=%d)" % (told.pages, told.marks), b""
     if told.verdict == "FAIL":
         place = b" at byte %d" % told.at + told.place.phrase().encode()
-        lacked = told.place.character and " " + told.place.character
-        return claim(told, command) + place, lacked.encode() + b" (%s)" % told.reason()
+        lacked = told.place.lacked().encode()
+        return claim(told, command) + place, lacked + b" (%s)" % told.reason()
     printer = b" for " + told.printer if told.printer else b""
     cause = escaped(told.cause)
     cause = cause if len(cause) <= MOST_OF_CAUSE else cause[:MOST_OF_CAUSE] + b"..."

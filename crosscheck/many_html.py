@@ -1,10 +1,10 @@
 """The document of jobs, against what is due of it: a reading of its own, by a parser of HTML."""
 
 import re
+from base64 import b64decode
 from dataclasses import dataclass, field
 from html.parser import HTMLParser
 from typing import Dict, List, Optional, Tuple
-from urllib.parse import unquote_to_bytes
 
 from kinds import kind_of
 from many_due import Told
@@ -14,9 +14,14 @@ from many_notes import note_text
 ONCE = "This job can be read only once, so no page of it is drawn."
 TOO_LARGE = "The picture of the page is too large for this document; the command picture of " \
     "pclcheck draws it."
-CAPTIONS = {"PASS": "The first page, from the first settings of the panel",
-            "FAIL": "The page at which the job fails, from the first settings of the panel"}
-ADDRESS = "data:image/svg+xml,"
+FIRST_PAGE = "The first page, from the first settings of the panel"
+FAILING_PAGE = "The page at which the job fails, from the first settings of the panel"
+# By the number: of these two no failure is seen.
+CAPTIONS = {
+    12: "The page as it prints from the first settings of the panel; others may print it otherwise",
+    33: "The page as it prints on this printer; the first one prints it otherwise",
+}
+ADDRESS = "data:image/svg+xml;base64,"
 MOST_LISTED, MOST_OF_PICTURE = 4_000, 1_000_000
 # What has no end, and what would load something.
 VOID = ("meta", "input", "img")
@@ -60,7 +65,7 @@ class Document(HTMLParser):
             self.row = Row(given.get("class", ""), given.get("data-printer", ""))
             self.rows.append(self.row)
         elif tag == "img" and self.row:
-            self.row.pictures.append(unquote_to_bytes(given["src"][len(ADDRESS):]))
+            self.row.pictures.append(picture_at(given["src"]))
         elif tag == "li":
             self.printers.append("")
         elif self.row:
@@ -82,6 +87,14 @@ class Document(HTMLParser):
 
     def handle_comment(self, data: str) -> None:
         self.wrong.append(f"a comment: {data!r}")
+
+
+def picture_at(address: str) -> bytes:
+    """The picture that an address has; nothing where it has none."""
+    try:
+        return b64decode(address[len(ADDRESS):], validate=True)
+    except ValueError:
+        return b""
 
 
 @dataclass(frozen=True)
@@ -114,6 +127,11 @@ def badges(told: Told, command: Optional[str]) -> List[Tuple[str, str]]:
     return []
 
 
+def caption(told: Told) -> str:
+    """Which page a picture is of, and what is seen of it."""
+    return CAPTIONS.get(told.code, FAILING_PAGE) if told.verdict == "FAIL" else FIRST_PAGE
+
+
 def body(told: Told, explanations: Dict[int, bytes], further: Further) -> List[Tuple[str, str]]:
     """What a row opens to."""
     found = []
@@ -130,7 +148,7 @@ def body(told: Told, explanations: Dict[int, bytes], further: Further) -> List[T
     if len(further.picture) > MOST_OF_PICTURE:
         found.append(("p", TOO_LARGE))
     elif further.picture:
-        found += [("figure", ""), ("figcaption", CAPTIONS[told.verdict])]
+        found += [("figure", ""), ("figcaption", caption(told))]
     return found
 
 

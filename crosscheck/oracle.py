@@ -74,6 +74,12 @@ class Place:
         x, y = map(millimetres, self.spot)
         return f" on page {self.page}, {x} mm from the left and {y} mm from the top"
 
+    def lacked(self) -> str:
+        """What stands behind the words on what is wrong: the missing font, or the character."""
+        if self.fonts:
+            return ", " + "; the nearest is ".join(self.fonts)
+        return self.character and " " + self.character
+
     def members(self) -> Dict[str, object]:
         """What an object has of it."""
         found = {"page": self.page, **dict(zip(("asked", "nearest"), self.fonts))}

@@ -79,7 +79,8 @@ STORED = (
     ("check --format words -p invoice.pcl ruled_form.pcl", 2, "",
      "invoice.pcl: line 1: this is neither 'pclprofile 1' nor 'pclprofile 2', so no profile; "
      "jobs come behind -p or -f (ERROR profile 1 Version)\n"
-     "invoice.pcl: this is a job, where a profile has to stand; -p takes a profile\n"),
+     "invoice.pcl: this is a job, where a profile has to stand; -p takes a profile, and without "
+     "-p JOB stands before the PROFILEs\n"),
     ("check --format xml ruled_form.pcl @B", 2, "",
      "error: invalid value 'xml' for '--format <FORM>'\n"
      "  [possible values: line, words, json, html]\n\n  tip: a similar value exists: 'html'\n\n"

@@ -1,7 +1,8 @@
 """Makes the sentence on how many commands `explain` tells of, and compares its texts of them.
 
 What it writes of a command that is taken has the values, the fields that are read and the findings
-of its row in the table of commands of DEFINITIONS, or no sentence is made.
+of its row in the table of commands of DEFINITIONS, or no sentence is made. Values that are refused
+by another form of a command stand in no row, but here.
 """
 
 import re
@@ -15,8 +16,8 @@ HEAD = re.compile(r"(\S+) (.+) \((.+)\): (taken|refused)")
 FILES = ("controls", "layout", "fonts", "drawing", "frames", "job_lines")
 # How the table of DEFINITIONS spells what has no spelling of a command with a number.
 SPELLED = {"*rB": "*r#B", "*rC": "*r#C"}
-# What these do not take is refused by another form of them.
-OTHER_FORMS = ("%A", "%B", "(@")
+# What these do not take is refused by another form of them: what is told of their values.
+OTHER_FORMS = {"%A": "0, 1", "%B": "0, 1; not within a frame", "(@": ""}
 CLOSES = "what closing the page reads"
 
 
@@ -73,6 +74,7 @@ def compare_taken(told: Told, rows: dict[str, list[str]]) -> None:
         raise Unreadable(f"the table of commands has no row of `{told.key}`")
     values, _, reads, findings = row
     if told.key in OTHER_FORMS:
+        values = OTHER_FORMS[told.key]
         findings = f"3, {findings}" if findings else "3"
     due = {"Values": values, "Reads": reads.replace("closes", CLOSES), "Finds": findings}
     for label, said in due.items():

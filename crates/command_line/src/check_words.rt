@@ -75,7 +75,7 @@ With -p, -f, --allow-empty, --most-items, --each, --notes, --format, --explain, 
   With --each, printer=NAME stands in each line, and notes are for that printer. In JOB a byte that
   shows nothing and the backslash are \\x and two digits.
 
-  --format words: a sentence for the line, of at most 1,000 bytes; of a long JOB it has the end, and
+  --format words: a sentence for the line, of at most 1,200 bytes; of a long JOB it has the end, and
   letters of UTF-8 stand in it as they are. It tells who says no, as the line does not: a printer
   refuses the job, or the job is wrong, or pclcheck cannot judge it.
   --format json: an object with job and verdict; of a PASS pages and marks; of a FAIL at, page,
@@ -87,9 +87,9 @@ With -p, -f, --allow-empty, --most-items, --each, --notes, --format, --explain, 
 
   Behind the page a sentence tells where the cursor stood before the item that fails, and an object
   has it as x_mm and y_mm: millimetres from the left and the upper edge of the page as it is read,
-  rounded down, of a finding at an item of one step, and not where a panel decides it. Of 13 NoFont
-  an object has the font that is asked for, as asked, and the face that has most parts equal, as
-  nearest; the printer may take another. Of 14 NoGlyph it has the character.
+  rounded down, of a finding at an item of one step, and not where a panel decides it. So of 13
+  NoFont both tell the font that is asked for and the face that has most parts equal, in an object
+  as asked and nearest; the printer may take another. Of 14 NoGlyph they tell the character.
 
   --format html: one document that loads nothing from elsewhere, with a row for the line: the
   verdict, the sentence of --format words, kind, page and byte. A row opens to the explanation and

@@ -122,7 +122,7 @@ fn refuse_word<E: Outlet>(alloc: Global, word: &str, stderr: &mut E) -> Status
         stderr.new ≡ stderr.old }
 {
     let Ok(text) = format!(in alloc;
-        "error: '{word}' is not UTF-8 text, and no file can be named so; rename it, or send a job on standard input: 'check -p PROFILE - < JOB', 'list /dev/stdin < JOB'\n"
+        "error: '{word}' is not UTF-8 text, and pclcheck opens files by names of text; rename it, or send a job on standard input: 'check -p PROFILE - < JOB', 'list /dev/stdin < JOB'\n"
     ) else {
         return Status::Stopped(Error::Memory);
     };

@@ -24,6 +24,7 @@ pub(crate) const TEXTS: [&str; 57] = [
     "\
 %A enter PCL mode (%#A): taken
   Does:    it leaves the frame of HP-GL/2; outside a frame it does nothing
+  Values:  0, 1
   Reads:   Size, Orientation
   Finds:   3, 12, 15
   Manual:  \"The Picture Frame\", Enter PCL Mode
@@ -31,6 +32,7 @@ pub(crate) const TEXTS: [&str; 57] = [
     "\
 %B enter HP-GL/2 mode (%#B): taken
   Does:    it enters a frame of HP-GL/2
+  Values:  0, 1; not within a frame
   Reads:   Size, Orientation, Vmi at home
   Finds:   3, 12
   Manual:  \"The Picture Frame\", Enter HP-GL/2 Mode

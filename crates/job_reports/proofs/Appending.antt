@@ -2,6 +2,12 @@
 use Rattle.std.proofs.Common.{◌≡◌, ◌∙◌, ℕ, List, ◌++◌, Result, Ok, Err, ap, sym, append_assoc}
 use Rattle.std.specs.Prelude.{OnOk, if◌then◌else◌, is_ok}
 
+pub two_appended : {T E : Type 0} (answer : Result T E) (old one new a b text : List ℕ) →
+    one ≡ old ++ a → new ≡ (if is_ok answer then one ++ b else one) → text ≡ a ++ b → OnOk answer (new ≡ old ++ text)
+two_appended (Ok x) old one new a b text first second is =
+    second ∙ ap (λ l. l ++ b) first ∙ append_assoc old a b ∙ ap (λ l. old ++ l) (sym is)
+two_appended (Err e) old one new a b text first second is = tt
+
 pub three_appended : {T E : Type 0} (answer : Result T E) (old one two new a b c text : List ℕ) →
     one ≡ old ++ a → two ≡ one ++ b → new ≡ (if is_ok answer then two ++ c else two) → text ≡ a ++ b ++ c → OnOk answer (new ≡ old ++ text)
 three_appended (Ok x) old one two new a b c text first second third is =

@@ -1,5 +1,5 @@
 -- Lines and sentences, computed from the definitions alone.
-use Rattle.std.proofs.Common.{◌≡◌, ℕ, Bool, true, false, List, [], ◌∷◌, ◌++◌, Option, Some, None, Result, Ok, Err, pos, refl, lit≤}
+use Rattle.std.proofs.Common.{◌≡◌, ℕ, Bool, true, false, List, [], ◌∷◌, ◌++◌, Option, Some, None, Result, Ok, Err, pos, negsuc, refl, lit≤}
 use Rattle.std.specs.Prelude.{codes}
 use Rattle.std.specs.Char.{encode_utf8}
 use Rattle.std.specs.Fmt.{digits}
@@ -12,18 +12,22 @@ use Rattle.pcl_items.specs.declared.item.SimpleItem.TheVariants.{Parameterized}
 use Rattle.pcl_items.specs.declared.number.Sign.{Sign}
 use Rattle.pcl_items.specs.declared.number.Sign.TheVariants.{Absent, Minus}
 use Rattle.device_profile.specs.declared.fault.Cause.TheVariants.{Range, Repeated}
-use Rattle.page_env.specs.declared.finding.Finding.TheVariants.{BadValue, NotOnDevice}
+use Rattle.device_profile.specs.declared.font.FontRequest.{FontRequest}
+use Rattle.page_env.specs.declared.finding.Finding.TheVariants.{BadValue, NoFont, NotOnDevice}
 use Rattle.verdict.specs.declared.reason.Reason.TheVariants.{Fault, Finding}
 use Rattle.verdict.specs.declared.verdict.Verdict.TheVariants.{Fail, Pass}
 use Rattle.command_names.specs.CommandNames.{table, texts_of}
 use Rattle.preflight.specs.declared.failing_item.FailingItem.{FailingItem}
 use Rattle.preflight.specs.declared.failing_item.FailingItem.TheVariants.{Simple}
 use Rattle.preflight.specs.declared.failing_item.Judgement.{Judgement}
+use Rattle.shown_bytes.specs.Decimals.{amount, minus}
 use Rattle.shown_bytes.specs.Lengths.{millimetres, signed_hundredths}
+use Rattle.shown_bytes.specs.Lettered.{lettered}
 use Rattle.shown_bytes.specs.Shown.{shown_text}
 use Rattle.streams.specs.declared.error.Error.{Error}
 use Rattle.streams.specs.declared.error.Error.TheVariants.{Read}
 use Rattle.job_reports.specs.declared.kind.Kind.TheVariants as kinds
+use Rattle.job_reports.specs.CommandWords.{font_commands, look_words, setting_words, weight_words}
 use Rattle.job_reports.specs.JobLines.{job_line}
 use Rattle.job_reports.specs.JobSentences.{job_sentence, left_phrase, named_first, top_phrase}
 use Rattle.job_reports.specs.Kinds.{kind_of}
@@ -101,6 +105,33 @@ sentence_of_place : job_sentence (report_of false placed None)
     "in/note 4712.pcl: counter refuses this job at byte 9 on page 1, 31.75 mm from the left and 38.10 mm from the top: the printer does not have this size, orientation, tray or sides (11 NotOnDevice)\n"
 unfolding shown_text is_utf8 chars encode_utf8 digits left_phrase top_phrase millimetres signed_hundredths
 sentence_of_place = refl
+
+-- no face has this weight; the nearest has all else
+abbrev bold : FontRequest
+bold = record {
+  symbol_set = record { number = 80_000; letter = 85 };
+  spacing = 0;
+  pitch = 100_000;
+  height = 120_000;
+  style = 0;
+  weight = pos 30_000;
+  typeface = 40_990_000;
+}
+
+abbrev missing : Result Judgement Error
+missing = Ok (record {
+  verdict = Fail 9 1 (Finding NoFont);
+  failing_item = None;
+  page = Some 1;
+  cursor = None;
+  font = Some (record { asked = bold; nearest = Some (record bold { weight = negsuc 9_999 }) });
+})
+
+sentence_of_font : job_sentence (report_of false missing None)
+    ≡ codes
+    "in/note 4712.pcl: counter refuses this job at byte 9 on page 1: the printer has no resident face like the one that is asked for, ESC (8U ESC (s0p10h12v0s3b4099T; the nearest is ESC (8U ESC (s0p10h12v0s-1b4099T (13 NoFont)\n"
+unfolding shown_text is_utf8 chars encode_utf8 digits font_commands lettered amount minus setting_words look_words weight_words
+sentence_of_font = refl
 
 sentence_of_fault : job_sentence (report_of false faulty None)
     ≡ codes "in/note 4712.pcl: this job is wrong at byte 9 on page 1: the bytes here are no command (1 Syntax)\n"

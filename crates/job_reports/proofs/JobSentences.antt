@@ -24,8 +24,9 @@ use Rattle.pcl_spelling.proofs.Spellings.Canonical.{setting_spelled}
 use Rattle.pcl_spelling.proofs.Frames.Canonical.{coordinate_spelled}
 use Rattle.device_profile.specs.declared.field.Field.{Field}
 use Rattle.device_profile.specs.declared.field.Field.TheVariants.{Size}
+use Rattle.device_profile.specs.declared.font.FontRequest.{FontRequest}
 use Rattle.page_env.specs.declared.finding.Finding.{Finding}
-use Rattle.page_env.specs.declared.finding.Finding.TheVariants.{BadValue, NoGlyph, Unset}
+use Rattle.page_env.specs.declared.finding.Finding.TheVariants.{BadValue, NoFont, NoGlyph, Unset}
 use Rattle.page_env.specs.Order.{number_of}
 use Rattle.verdict.specs.declared.reason.Reason.{Reason}
 use Rattle.verdict.specs.declared.reason.Reason.TheVariants.{Fault, Finding as Found, Differs, Unpinnable}
@@ -36,17 +37,20 @@ use Rattle.line_words.specs.Figures.{escaped_byte, named}
 use Rattle.device_profile.specs.Field.{field_name}
 use Rattle.line_words.specs.Reason.{bare_cause_name, bare_finding_name, bare_name, brackets, name_words, reason_words, short_cause}
 use Rattle.line_words.specs.Reason.{short_finding, short_reason, named_byte}
-use Rattle.shown_bytes.specs.Decimals.{digit, magnitude_text, with_hundredths}
+use Rattle.shown_bytes.specs.Decimals.{amount as shown_amount, digit, magnitude_text, minus, with_hundredths}
 use Rattle.shown_bytes.specs.Lengths.{millimetres, signed_hundredths}
+use Rattle.shown_bytes.specs.Lettered.{lettered}
 use Rattle.shown_bytes.specs.Shown.{shown, shown_byte, shown_text}
 use Rattle.preflight.specs.declared.failing_item.FailingItem.{FailingItem}
 use Rattle.preflight.specs.declared.failing_item.FailingItem.TheVariants.{Text, Simple, WithData, Line}
 use Rattle.preflight.specs.declared.failing_item.Judgement.{Judgement}
+use Rattle.preflight.specs.declared.failing_item.MissingFont.{MissingFont}
 use Rattle.preflight.specs.declared.failing_item.SheetSpot.{SheetSpot}
 use Rattle.streams.specs.declared.error.Error.{Error}
 use Rattle.streams.specs.declared.error.Error.TheVariants.{Memory, Read, Write, Turns, NoProfile, Items}
-use Rattle.job_reports.specs.CommandWords.{code_words, command_words}
+use Rattle.job_reports.specs.CommandWords.{code_words, command_words, font_commands, look_words, setting_words, weight_words}
 use Rattle.job_reports.specs.JobSentences.{AreNumbers, IsFailingItemOfNumbers, IsOfParts, IsPageOfNumber, IsSentence, IsVerdictOfNumbers}
+use Rattle.job_reports.specs.JobSentences.{IsFaceOfNumbers, IsFontOfNumbers, IsRequestOfNumbers, font_behind, font_phrase}
 use Rattle.job_reports.specs.JobSentences.{IsSpotOfNumbers, IsWithin, left_phrase, on_page, on_sheet, place_phrase}
 use Rattle.job_reports.specs.JobSentences.{answer_phrase, at_command, cause_phrase, claim_by, error_phrase, fails_where, few_words}
 use Rattle.job_reports.specs.JobSentences.{first_of, for_each, for_printer, is_bad_value, job_claim, job_sentence, last_of, named_first}
@@ -60,8 +64,9 @@ use Rattle.job_reports.specs.declared.kind.Kind.{Kind}
 use Rattle.job_reports.specs.declared.kind.Kind.TheVariants as kinds
 use Rattle.job_reports.specs.declared.left_out.LeftOut.{LeftOut}
 use Rattle.job_reports.specs.declared.left_out.LeftOut.TheVariants as left_outs
-use Rattle.job_reports.specs.Reports.{Reported, failing_item_of, cursor_of, number_told, page_of, verdict_told}
+use Rattle.job_reports.specs.Reports.{Reported, failing_item_of, cursor_of, font_of, number_told, page_of, verdict_told}
 use Rattle.requests.specs.Status.{error_words}
+use Rattle.job_reports.proofs.Within.{amount_part, lettered_part, minus_part}
 use Rattle.job_reports.proofs.Within.{code_part, decimal_part, escaped_part, first_part, flat_part, joined, last_part, literal, name_at}
 use Rattle.job_reports.proofs.Within.{name_shown, named_part, nothing, one_of, short_decimal_part, shown_byte_part, shown_part, wider}
 
@@ -200,6 +205,64 @@ place_part place page cursor h k s =
     joined (front ++ on_page page) (on_sheet cursor)
     (joined front (on_page page) (named_part 9 (codes " at byte ") place refl refl h) (on_page_part page k)) (on_sheet_part cursor s)
 
+-- ---- the commands that ask for a font
+
+-- a number of so many ten-thousandths between two texts
+amount_behind : {most : ℕ} (front : List ℕ) (n : ℕ) (back : List ℕ) → IsWithin most front → n < 2 ^ 32 → IsWithin 1 back →
+    IsWithin (most + 12) (front ++ shown_amount n ++ back)
+amount_behind front n back f h k =
+    wider _ _ (omega arith) (joined (front ++ shown_amount n) back (joined front (shown_amount n) f (amount_part n h)) k)
+
+setting_part : (font : FontRequest) → IsRequestOfNumbers font → IsWithin 36 (setting_words font)
+unfolding setting_words
+setting_part font h =
+    let spacing : List ℕ = shown_amount font.spacing ++ codes "p" in
+    let pitch : List ℕ = spacing ++ shown_amount font.pitch ++ codes "h" in
+    amount_behind pitch font.height (codes "v")
+    (amount_behind spacing font.pitch (codes "h")
+    (joined (shown_amount font.spacing) (codes "p") (amount_part font.spacing h.spacing) (literal 1 _ refl refl)) h.pitch
+    (literal 1 _ refl refl))
+    h.height (literal 1 _ refl refl)
+
+weight_part : (weight : ℤ) → unsigned_abs weight < 2 ^ 32 → IsWithin 13 (weight_words weight)
+unfolding weight_words
+weight_part weight h = amount_behind (minus weight) (unsigned_abs weight) (codes "b") (minus_part weight) h (literal 1 _ refl refl)
+
+look_part : (font : FontRequest) → IsRequestOfNumbers font → IsWithin 37 (look_words font)
+unfolding look_words
+look_part font h =
+    let style : List ℕ = shown_amount font.style ++ codes "s" in
+    amount_behind (style ++ weight_words font.weight) font.typeface (codes "T")
+    (joined style (weight_words font.weight)
+    (joined (shown_amount font.style) (codes "s") (amount_part font.style h.style) (literal 1 _ refl refl))
+    (weight_part font.weight h.weight))
+    h.typeface (literal 1 _ refl refl)
+
+font_commands_part : (font : FontRequest) → IsRequestOfNumbers font → IsWithin 97 (font_commands font)
+unfolding font_commands
+font_commands_part font h =
+    let set : List ℕ = codes "ESC (" ++ lettered font.symbol_set.number font.symbol_set.letter in
+    joined (set ++ codes " ESC (s" ++ setting_words font) (look_words font)
+    (joined (set ++ codes " ESC (s") (setting_words font)
+    (joined set (codes " ESC (s")
+    (joined (codes "ESC (") (lettered font.symbol_set.number font.symbol_set.letter) (literal 5 _ refl refl)
+    (lettered_part font.symbol_set.number font.symbol_set.letter h.number h.letter))
+    (literal 7 _ refl refl))
+    (setting_part font h))
+    (look_part font h)
+
+font_behind_part : (most : ℕ) (words : List ℕ) (font : Option FontRequest) → IsWithin most words → IsFaceOfNumbers font →
+    IsWithin (most + 97) (font_behind words font)
+font_behind_part most words None w h = nothing (most + 97)
+font_behind_part most words (Some font) w h = joined words (font_commands font) w (font_commands_part font h)
+
+font_part : (font : Option MissingFont) → IsFontOfNumbers font → IsWithin 213 (font_phrase font)
+font_part None h = nothing 213
+font_part (Some font) h =
+    joined (font_behind (codes ", ") (Some font.asked)) (font_behind (codes "; the nearest is ") font.nearest)
+    (font_behind_part 2 (codes ", ") (Some font.asked) (literal 2 _ refl refl) h.0)
+    (font_behind_part 17 (codes "; the nearest is ") font.nearest (literal 17 _ refl refl) h.1)
+
 -- ---- what is wrong
 
 short_cause_part : (cause : LexCause) → IsWithin 80 (short_cause cause)
@@ -303,82 +366,92 @@ few_words_part left_out reason =
     one_of 80 (is_bad_value reason) (value_words left_out) (short_reason reason)
     (λ e. wider 80 _ (omega arith) (value_part left_out)) (short_part reason)
 
-lacked_part : (reason : Reason) → IsWithin 5 (lacked reason)
-lacked_part (Found (NoGlyph code)) = joined (codes " ") (escaped_byte code) (literal 1 _ refl refl) (escaped_part code)
-lacked_part _ = nothing 5
+lacked_part : (font : Option MissingFont) → IsFontOfNumbers font → (reason : Reason) → IsWithin 213 (lacked font reason)
+lacked_part font h (Found NoFont) = font_part font h
+lacked_part font h (Found (NoGlyph code)) =
+    wider 213 _ (omega arith) (joined (codes " ") (escaped_byte code) (literal 1 _ refl refl) (escaped_part code))
+lacked_part font h _ = nothing 213
 
 -- of parts that are so long
-phrase_part : {few more name field : ℕ} (left_out : Option LeftOut) (reason : Reason) → IsWithin few (few_words left_out reason) →
-    IsWithin more (lacked reason) → IsWithin name (bare_name reason) → IsWithin field (brackets reason) →
-    IsWithin (few + more + name + field + 8) (reason_phrase left_out reason)
-phrase_part left_out reason f l n k =
+phrase_part : {few more name field : ℕ} (left_out : Option LeftOut) (font : Option MissingFont) (reason : Reason) →
+    IsWithin few (few_words left_out reason) → IsWithin more (lacked font reason) → IsWithin name (bare_name reason) →
+    IsWithin field (brackets reason) → IsWithin (few + more + name + field + 8) (reason_phrase left_out font reason)
+phrase_part left_out font reason f l n k =
     let words : List ℕ = codes ": " ++ few_words left_out reason in
-    let front : List ℕ = words ++ lacked reason in
+    let front : List ℕ = words ++ lacked font reason in
     wider _ _ (omega arith)
     (joined ((front ++ codes " (") ++ reason_words reason) (codes ")")
     (joined (front ++ codes " (") (reason_words reason)
     (joined front (codes " (")
-    (joined words (lacked reason) (joined (codes ": ") (few_words left_out reason) (literal 2 _ refl refl) f) l)
+    (joined words (lacked font reason) (joined (codes ": ") (few_words left_out reason) (literal 2 _ refl refl) f) l)
     (literal 2 _ refl refl))
     (reason_part reason n k))
     (literal 1 _ refl refl))
 
-reason_phrase_part : (left_out : Option LeftOut) (reason : Reason) → IsWithin 126 (reason_phrase left_out reason)
-reason_phrase_part left_out reason =
-    phrase_part left_out reason (few_words_part left_out reason) (lacked_part reason) (bare_part reason) (brackets_part reason)
+reason_phrase_part : (left_out : Option LeftOut) (font : Option MissingFont) → IsFontOfNumbers font → (reason : Reason) →
+    IsWithin 334 (reason_phrase left_out font reason)
+reason_phrase_part left_out font h reason =
+    phrase_part left_out font reason (few_words_part left_out reason) (lacked_part font h reason) (bare_part reason)
+    (brackets_part reason)
 
-unchecked_phrase_part : (left_out : Option LeftOut) (name : Name) → IsWithin 77 (reason_phrase left_out (Fault (NotInProfile name)))
-unchecked_phrase_part left_out name =
+unchecked_phrase_part : (left_out : Option LeftOut) (font : Option MissingFont) (name : Name) →
+    IsWithin 77 (reason_phrase left_out font (Fault (NotInProfile name)))
+unchecked_phrase_part left_out font name =
     let reason : Reason = Fault (NotInProfile name) in
-    phrase_part left_out reason (literal 44 _ refl refl) (nothing 0) (literal 12 _ refl refl) (brackets_part reason)
+    phrase_part left_out font reason (literal 44 _ refl refl) (nothing 0) (literal 12 _ refl refl) (brackets_part reason)
 
-value_phrase_part : (left_out : Option LeftOut) → IsWithin 78 (reason_phrase left_out (Found BadValue))
-value_phrase_part left_out =
-    phrase_part left_out (Found BadValue) (value_part left_out) (nothing 0) (literal 8 _ refl refl) (nothing 0)
+value_phrase_part : (left_out : Option LeftOut) (font : Option MissingFont) →
+    IsWithin 78 (reason_phrase left_out font (Found BadValue))
+value_phrase_part left_out font =
+    phrase_part left_out font (Found BadValue) (value_part left_out) (nothing 0) (literal 8 _ refl refl) (nothing 0)
 
 -- ---- what fails, and why
 
-module _ (front : List ℕ) (failing_item : Option FailingItem) (f : IsWithin 132 front) (h : IsFailingItemOfNumbers failing_item) where
+module _ (front : List ℕ) (font : Option MissingFont) (failing_item : Option FailingItem) (f : IsWithin 132 front)
+    (asked : IsFontOfNumbers font) (h : IsFailingItemOfNumbers failing_item) where
   abbrev failure : Reason → List ℕ
   failure reason =
-      front ++ what_fails (at_command failing_item) (value_key failing_item) reason ++ reason_phrase (left_out_of failing_item) reason
+      front ++ what_fails (at_command failing_item) (value_key failing_item) reason
+      ++ reason_phrase (left_out_of failing_item) font reason
 
   -- behind a name that is so long a reason that is so long
-  named_failure : {m n : ℕ} (reason : Reason) → m + n ≤ 140 → IsWithin m (called (refused_name (value_key failing_item) reason)) →
-      IsWithin n (reason_phrase (left_out_of failing_item) reason) → IsWithin 418 (failure reason)
+  named_failure : {m n : ℕ} (reason : Reason) → m + n ≤ 334 → IsWithin m (called (refused_name (value_key failing_item) reason)) →
+      IsWithin n (reason_phrase (left_out_of failing_item) font reason) → IsWithin 612 (failure reason)
   named_failure reason l k w =
       let name : List ℕ = called (refused_name (value_key failing_item) reason) in
       let what : List ℕ = at_command failing_item ++ name in
-      wider 418 _ (omega (arith, l))
-      (joined (front ++ what) (reason_phrase (left_out_of failing_item) reason)
+      wider 612 _ (omega (arith, l))
+      (joined (front ++ what) (reason_phrase (left_out_of failing_item) font reason)
       (joined front what f (joined (at_command failing_item) name (at_part failing_item h) k)) w)
 
   -- a name stands before short reasons alone
-  failure_part : (reason : Reason) → IsWithin 418 (failure reason)
+  failure_part : (reason : Reason) → IsWithin 612 (failure reason)
   failure_part (Fault (NotInProfile name)) =
       named_failure (Fault (NotInProfile name)) (omega arith) (called_part (command_name (name_words name)) (by_key (name_words name)))
-      (unchecked_phrase_part (left_out_of failing_item) name)
+      (unchecked_phrase_part (left_out_of failing_item) font name)
   failure_part (Found BadValue) =
       named_failure (Found BadValue) (omega arith) (called_part (value_name (value_key failing_item))
       (value_name_part (value_key failing_item)))
-      (value_phrase_part (left_out_of failing_item))
-  failure_part reason = named_failure reason (omega arith) (nothing 0) (reason_phrase_part (left_out_of failing_item) reason)
+      (value_phrase_part (left_out_of failing_item) font)
+  failure_part reason =
+      named_failure reason (omega arith) (nothing 0) (reason_phrase_part (left_out_of failing_item) font asked reason)
 
 -- ---- the answer
 
-verdict_part : (page : Option ℕ) (cursor : Option SheetSpot) (failing_item : Option FailingItem) (verdict : Verdict) → IsPageOfNumber page →
-    IsSpotOfNumbers cursor → IsFailingItemOfNumbers failing_item → IsVerdictOfNumbers verdict →
-    IsWithin 418 (verdict_phrase (fails_where page cursor failing_item) verdict)
-verdict_part page cursor failing_item (Pass pages marks) p s h k =
+verdict_part : (page : Option ℕ) (cursor : Option SheetSpot) (font : Option MissingFont) (failing_item : Option FailingItem)
+    (verdict : Verdict) → IsPageOfNumber page → IsSpotOfNumbers cursor → IsFontOfNumbers font →
+    IsFailingItemOfNumbers failing_item → IsVerdictOfNumbers verdict →
+    IsWithin 612 (verdict_phrase (fails_where page cursor font failing_item) verdict)
+verdict_part page cursor font failing_item (Pass pages marks) p s asked h k =
     let front : List ℕ = named (codes " (pages=") pages in
     let back : List ℕ = named (codes " marks=") marks in
-    wider 418 _ (omega arith)
+    wider 612 _ (omega arith)
     (joined (front ++ back) (codes ")")
     (joined front back (named_part 8 (codes " (pages=") pages refl refl k.0)
     (named_part 7 (codes " marks=") marks refl refl k.1))
     (literal 1 _ refl refl))
-verdict_part page cursor failing_item (Fail place profile reason) p s h k =
-    failure_part (place_phrase place page cursor) failing_item (place_part place page cursor k p s) h reason
+verdict_part page cursor font failing_item (Fail place profile reason) p s asked h k =
+    failure_part (place_phrase place page cursor) font failing_item (place_part place page cursor k p s) asked h reason
 
 subject_part : (names : List (List ℕ)) (number : ℕ) → AllByRecursion (IsWithin 32) names → IsWithin 32 (subject names number)
 subject_part names number h =
@@ -435,18 +508,20 @@ cause_part (Some words) =
     (first_part 200 (shown words) (flat_part shown_byte shown_byte_part words).shown)
 
 answer_part : (report : Reported) (answer : Result Verdict Error) → AllByRecursion (IsWithin 32) report.names →
-    IsPageOfNumber (page_of report.answer) → IsSpotOfNumbers (cursor_of report.answer) →
-    IsFailingItemOfNumbers (failing_item_of report.answer) → IfOk answer IsVerdictOfNumbers → IsWithin 485 (answer_phrase report answer)
-answer_part report (Ok verdict) h p s k l =
+    IsPageOfNumber (page_of report.answer) → IsSpotOfNumbers (cursor_of report.answer) → IsFontOfNumbers (font_of report.answer) →
+    IsFailingItemOfNumbers (failing_item_of report.answer) → IfOk answer IsVerdictOfNumbers → IsWithin 679 (answer_phrase report answer)
+answer_part report (Ok verdict) h p s asked k l =
     joined (job_claim report)
-    (verdict_phrase (fails_where (page_of report.answer) (cursor_of report.answer) (failing_item_of report.answer)) verdict)
+    (verdict_phrase
+    (fails_where (page_of report.answer) (cursor_of report.answer) (font_of report.answer) (failing_item_of report.answer)) verdict)
     (claim_part (subject report.names (number_told report.is_each (verdict_told report.answer))) (for_each report.is_each report.names)
     (subject_part report.names _ h) (for_each_part report.is_each report.names h) (left_out_of (failing_item_of report.answer))
     (verdict_told report.answer))
-    (verdict_part (page_of report.answer) (cursor_of report.answer) (failing_item_of report.answer) verdict p s k l)
-answer_part report (Err error) h p s k l =
+    (verdict_part (page_of report.answer) (cursor_of report.answer) (font_of report.answer) (failing_item_of report.answer) verdict p s
+    asked k l)
+answer_part report (Err error) h p s asked k l =
     let front : List ℕ = error_phrase error ++ for_printer report.names (number_told report.is_each (Err error)) in
-    wider 485 _ (omega arith)
+    wider 679 _ (omega arith)
     (joined (((front ++ cause_phrase report.cause) ++ codes " (") ++ error_words error) (codes ")")
     (joined ((front ++ cause_phrase report.cause) ++ codes " (") (error_words error)
     (joined (front ++ cause_phrase report.cause) (codes " (")
@@ -468,6 +543,10 @@ spot_numbers : (answer : Result Judgement Error) → IfOk answer AreNumbers → 
 spot_numbers (Ok judgement) h = h.3
 spot_numbers (Err error) h = tt
 
+font_numbers : (answer : Result Judgement Error) → IfOk answer AreNumbers → IsFontOfNumbers (font_of answer)
+font_numbers (Ok judgement) h = h.4
+font_numbers (Err error) h = tt
+
 verdict_numbers : (answer : Result Judgement Error) → IfOk answer AreNumbers → IfOk (verdict_told answer) IsVerdictOfNumbers
 verdict_numbers (Ok judgement) h = h.0
 verdict_numbers (Err error) h = tt
@@ -481,8 +560,9 @@ sentence_is_short report h =
     let answer : List ℕ = answer_phrase report (verdict_told report.answer) in (
       named_first report.job ++ answer,
       refl,
-      wider 999 _ (omega arith)
+      wider 1_199 _ (omega arith)
           (joined (named_first report.job) answer (named_first_part report.job)
           (answer_part report (verdict_told report.answer) h.names (page_number report.answer h.numbers)
-          (spot_numbers report.answer h.numbers) (failing_item_numbers report.answer h.numbers) (verdict_numbers report.answer h.numbers))),
+          (spot_numbers report.answer h.numbers) (font_numbers report.answer h.numbers) (failing_item_numbers report.answer h.numbers)
+          (verdict_numbers report.answer h.numbers))),
     )

@@ -1,7 +1,7 @@
 -- Texts of at most so many bytes, of which none is a control code.
 use Rattle.std.proofs.Common.{◌≡◌, ℕ, zero, suc, ◌+◌, ◌-◌, ◌*◌, ◌/◌, ◌%◌, ◌^◌, ◌==◌, ◌<◌, ◌≤◌, Bool, true, false, List, [], ◌∷◌, ◌++◌}
-use Rattle.std.proofs.Common.{length, take, drop, codes, refl, sym, arith, get_or, append-nil}
-use Rattle.std.specs.Prelude.{decimal, flat_map, nat_le, nat_lt, not, ◌&&◌, if◌then◌else◌}
+use Rattle.std.proofs.Common.{ℤ, pos, length, take, drop, codes, refl, sym, arith, get_or, append-nil}
+use Rattle.std.specs.Prelude.{decimal, flat_map, int_lt, nat_le, nat_lt, not, ◌&&◌, if◌then◌else◌}
 use Rattle.std.specs.List.{AllByRecursion}
 use Rattle.std.specs.Char.{encode_utf8}
 use Rattle.std.specs.Str.{chars, is_utf8}
@@ -10,6 +10,8 @@ use Rattle.std.proofs.lemmas.Fmt.{decimal_by_steps, length-decimal-le}
 use Rattle.std.proofs.lemmas.List.{length-append, length-drop, length-take}
 use Rattle.std.proofs.lemmas.Str.{inside_one}
 use Rattle.line_words.specs.Figures.{escaped_byte, named}
+use Rattle.shown_bytes.specs.Decimals.{amount, digit_before, four_decimals, minus, with_point, without_zeros}
+use Rattle.shown_bytes.specs.Lettered.{lettered}
 use Rattle.shown_bytes.specs.Shown.{hex_byte, hex_digit, is_letter, shown, shown_byte, shown_letter, shown_text, steers}
 use Rattle.line_words.specs.Reason.{named_byte}
 use Rattle.job_reports.specs.CommandWords.{code_words}
@@ -192,6 +194,39 @@ decimal_part n h = record {
 -- one of so many digits
 pub short_decimal_part : (k n : ℕ) → 0 < k → n < 10 ^ k → n < 2 ^ 64 → IsWithin k (decimal n)
 short_decimal_part k n some low h = record { short = length-decimal-le k n some low h; shown = (decimal_part n h).shown }
+
+before_part : (most d : ℕ) (ds : List ℕ) → 32 ≤ d → IsWithin most ds → IsWithin (1 + most) (digit_before d ds)
+before_part most d [] h k =
+    one_of (1 + most) (d == 48) [] (d ∷ []) (λ e. nothing (1 + most)) (self_part (1 + most) d (omega arith) h)
+before_part most d (e ∷ ds) h k = joined (d ∷ []) (e ∷ ds) (self_part 1 d (omega arith) h) k
+
+zeros_part : (ds : List ℕ) → IsShown ds → IsWithin (length ds) (without_zeros ds)
+zeros_part [] h = nothing 0
+zeros_part (d ∷ ds) h = wider _ _ (omega arith) (before_part (length ds) d (without_zeros ds) h.0 (zeros_part ds h.1))
+
+decimals_part : (n : ℕ) → IsWithin 4 (without_zeros (four_decimals n))
+decimals_part n =
+    wider 4 _ (omega arith) (zeros_part (four_decimals n) (omega arith, (omega arith, (omega arith, (omega arith, tt)))))
+
+point_part : (most : ℕ) (ds : List ℕ) → IsWithin most ds → IsWithin (1 + most) (with_point ds)
+point_part most [] h = nothing (1 + most)
+point_part most (d ∷ ds) h = joined (46 ∷ []) (d ∷ ds) (literal 1 _ refl refl) h
+
+-- so many ten-thousandths, of 32 bits
+pub amount_part : (n : ℕ) → n < 2 ^ 32 → IsWithin 11 (amount n)
+unfolding amount
+amount_part n h =
+    joined (decimal (n / 10_000)) (with_point (without_zeros (four_decimals n)))
+    (short_decimal_part 6 (n / 10_000) (omega arith) (omega (arith, h)) (omega (arith, h)))
+    (point_part 4 (without_zeros (four_decimals n)) (decimals_part n))
+
+pub minus_part : (n : ℤ) → IsWithin 1 (minus n)
+unfolding minus
+minus_part n = one_of 1 (int_lt n (pos 0)) (45 ∷ []) [] (λ e. literal 1 _ refl refl) (nothing 1)
+
+pub lettered_part : (n letter : ℕ) → n < 2 ^ 32 → 32 ≤ letter → IsWithin 12 (lettered n letter)
+unfolding lettered
+lettered_part n letter h k = joined (amount n) (letter ∷ []) (amount_part n h) (self_part 1 letter (omega arith) k)
 
 pub name_at : (names : List (List ℕ)) (i : ℕ) → AllByRecursion (IsWithin 32) names → IsWithin 32 (get_or names i [])
 name_at [] i h = nothing 32

@@ -43,7 +43,8 @@ unfoldable pub look_words : FontRequest → List ℕ
 look_words font =
     amount font.style ++ codes "s" ++ weight_words font.weight ++ amount font.typeface ++ codes "T"
 
-abbrev pub font_commands : FontRequest → List ℕ
+-- of all of it
+unfoldable pub font_commands : FontRequest → List ℕ
 font_commands font =
     codes "ESC (" ++ lettered font.symbol_set.number font.symbol_set.letter ++ codes " ESC (s" ++ setting_words font
     ++ look_words font

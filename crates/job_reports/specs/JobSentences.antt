@@ -3,12 +3,14 @@ use Rattle.std.specs.Prelude.{◌≡◌, ℕ, ℤ, ◌==◌, ◌-◌, ◌^◌, �
 use Rattle.std.specs.Prelude.{drop, take, length, get_or, if◌then◌else◌, Bool, true, false, Option, None, Some, Result}
 use Rattle.std.specs.Prelude.{Ok, Err, IfOk, unsigned_abs, ⊤}
 use Rattle.std.specs.List.{AllByRecursion}
+use Rattle.device_profile.specs.declared.font.FontRequest.{FontRequest}
 use Rattle.line_words.specs.Figures.{escaped_byte, named}
 use Rattle.line_words.specs.Reason.{reason_words, short_reason}
-use Rattle.page_env.specs.declared.finding.Finding.TheVariants.{BadValue, NoGlyph}
+use Rattle.page_env.specs.declared.finding.Finding.TheVariants.{BadValue, NoFont, NoGlyph}
 use Rattle.preflight.specs.declared.failing_item.FailingItem.{FailingItem}
 use Rattle.preflight.specs.declared.failing_item.FailingItem.TheVariants.{Text, Simple, WithData, Line}
 use Rattle.preflight.specs.declared.failing_item.Judgement.{Judgement}
+use Rattle.preflight.specs.declared.failing_item.MissingFont.{MissingFont}
 use Rattle.preflight.specs.declared.failing_item.SheetSpot.{SheetSpot}
 use Rattle.shown_bytes.specs.Lengths.{millimetres}
 use Rattle.shown_bytes.specs.Shown.{shown, shown_text}
@@ -18,14 +20,14 @@ use Rattle.verdict.specs.declared.reason.Reason.{Reason}
 use Rattle.verdict.specs.declared.reason.Reason.TheVariants.{Finding}
 use Rattle.verdict.specs.declared.verdict.Verdict.{Verdict}
 use Rattle.verdict.specs.declared.verdict.Verdict.TheVariants.{Pass, Fail}
-use Rattle.job_reports.specs.CommandWords.{command_words}
+use Rattle.job_reports.specs.CommandWords.{command_words, font_commands}
 use Rattle.job_reports.specs.Kinds.{kind_by}
 use Rattle.job_reports.specs.LeftOut.{left_out_of, value_words}
 use Rattle.job_reports.specs.RefusedNames.{called, refused_name, value_key}
 use Rattle.job_reports.specs.declared.kind.Kind.{Kind}
 use Rattle.job_reports.specs.declared.kind.Kind.TheVariants as kinds
 use Rattle.job_reports.specs.declared.left_out.LeftOut.{LeftOut}
-use Rattle.job_reports.specs.Reports.{Reported, failing_item_of, cursor_of, number_told, page_of, verdict_told}
+use Rattle.job_reports.specs.Reports.{Reported, failing_item_of, cursor_of, font_of, number_told, page_of, verdict_told}
 use Rattle.requests.specs.Status.{error_words}
 
 -- ---- what is long, in part
@@ -82,11 +84,12 @@ abbrev pub at_command : Option FailingItem → List ℕ
 at_command None = []
 at_command (Some failing_item) = codes ", " ++ command_words failing_item
 
--- where a job fails: the page, where the cursor stood, the words behind that, the key of the command with its value,
--- and what is left out of the value there
+-- where a job fails: the page, where the cursor stood, which font was asked for with the nearest face, the words on
+-- the item, the key of the command with its value, and what is left out of the value there
 pub record FailsAt : Type 0 where
   pub page : Option ℕ
   pub cursor : Option SheetSpot
+  pub font : Option MissingFont
   pub words : List ℕ
   pub value : Option (List ℕ)
   pub left_out : Option LeftOut
@@ -95,14 +98,15 @@ abbrev pub fails_at : Option ℕ → Option FailingItem → FailsAt
 fails_at page failing_item = record {
   page = page;
   cursor = None;
+  font = None;
   words = at_command failing_item;
   value = value_key failing_item;
   left_out = left_out_of failing_item;
 }
 
--- the same where it may be known where the cursor stood
-abbrev pub fails_where : Option ℕ → Option SheetSpot → Option FailingItem → FailsAt
-fails_where page cursor failing_item = record (fails_at page failing_item) { cursor = cursor }
+-- the same where it may be known where the cursor stood, and which font was asked for
+abbrev pub fails_where : Option ℕ → Option SheetSpot → Option MissingFont → Option FailingItem → FailsAt
+fails_where page cursor font failing_item = record (fails_at page failing_item) { cursor = cursor; font = font }
 
 -- the words on the item, and what HP's manual calls what is not checked
 abbrev pub what_fails : List ℕ → Option (List ℕ) → Reason → List ℕ
@@ -136,21 +140,34 @@ is_bad_value _ = false
 abbrev pub few_words : Option LeftOut → Reason → List ℕ
 few_words left_out reason = if is_bad_value reason then value_words left_out else short_reason reason
 
--- the character that a face lacks, behind these words
-abbrev pub lacked : Reason → List ℕ
-lacked (Finding (NoGlyph code)) = codes " " ++ escaped_byte code
-lacked _ = []
+-- a font behind these words, as the commands that ask for it
+abbrev pub font_behind : List ℕ → Option FontRequest → List ℕ
+font_behind words None = []
+font_behind words (Some font) = words ++ font_commands font
+
+-- the font that is asked for, and what selects the nearest face
+abbrev pub font_phrase : Option MissingFont → List ℕ
+font_phrase None = []
+font_phrase (Some font) =
+    font_behind (codes ", ") (Some font.asked) ++ font_behind (codes "; the nearest is ") font.nearest
+
+-- what is lacked, behind these words: a font, or a character of a face
+abbrev pub lacked : Option MissingFont → Reason → List ℕ
+lacked font (Finding NoFont) = font_phrase font
+lacked font (Finding (NoGlyph code)) = codes " " ++ escaped_byte code
+lacked font _ = []
 
 -- what is wrong, in words and as a line has it
-abbrev pub reason_phrase : Option LeftOut → Reason → List ℕ
-reason_phrase left_out reason =
-    codes ": " ++ few_words left_out reason ++ lacked reason ++ codes " (" ++ reason_words reason ++ codes ")"
+abbrev pub reason_phrase : Option LeftOut → Option MissingFont → Reason → List ℕ
+reason_phrase left_out font reason =
+    codes ": " ++ few_words left_out reason ++ lacked font reason ++ codes " (" ++ reason_words reason ++ codes ")"
 
 -- what stands behind the claim
 abbrev pub verdict_phrase : FailsAt → Verdict → List ℕ
 verdict_phrase at (Pass pages marks) = named (codes " (pages=") pages ++ named (codes " marks=") marks ++ codes ")"
 verdict_phrase at (Fail place profile reason) =
-    place_phrase place at.page at.cursor ++ what_fails at.words at.value reason ++ reason_phrase at.left_out reason
+    place_phrase place at.page at.cursor ++ what_fails at.words at.value reason
+    ++ reason_phrase at.left_out at.font reason
 
 -- ---- why there is none
 
@@ -176,7 +193,7 @@ abbrev pub answer_phrase : Reported → Result Verdict Error → List ℕ
 answer_phrase report (Ok verdict) =
     job_claim report
     ++ verdict_phrase (fails_where (page_of report.answer) (cursor_of report.answer)
-    (failing_item_of report.answer)) verdict
+    (font_of report.answer) (failing_item_of report.answer)) verdict
 answer_phrase report (Err error) =
     error_phrase error ++ for_printer report.names (number_told report.is_each (Err error)) ++ cause_phrase report.cause
     ++ codes " (" ++ error_words error ++ codes ")"
@@ -215,17 +232,36 @@ abbrev pub IsSpotOfNumbers : Option SheetSpot → Type 0
 IsSpotOfNumbers (Some spot) = (unsigned_abs spot.x ≤ 2 ^ 63) × (unsigned_abs spot.y ≤ 2 ^ 63)
 IsSpotOfNumbers None = ⊤
 
--- numbers of 64 bits
+-- numbers of 32 bits, and a letter that shows
+pub record IsRequestOfNumbers (font : FontRequest) : Type 0 where
+  pub number : font.symbol_set.number < 2 ^ 32
+  pub letter : 32 ≤ font.symbol_set.letter
+  pub spacing : font.spacing < 2 ^ 32
+  pub pitch : font.pitch < 2 ^ 32
+  pub height : font.height < 2 ^ 32
+  pub style : font.style < 2 ^ 32
+  pub weight : unsigned_abs font.weight < 2 ^ 32
+  pub typeface : font.typeface < 2 ^ 32
+
+abbrev pub IsFaceOfNumbers : Option FontRequest → Type 0
+IsFaceOfNumbers (Some font) = IsRequestOfNumbers font
+IsFaceOfNumbers None = ⊤
+
+abbrev pub IsFontOfNumbers : Option MissingFont → Type 0
+IsFontOfNumbers (Some font) = IsRequestOfNumbers font.asked × IsFaceOfNumbers font.nearest
+IsFontOfNumbers None = ⊤
+
+-- numbers of 64 bits, and of fonts of 32
 abbrev pub AreNumbers : Judgement → Type 0
 AreNumbers judgement =
     IsVerdictOfNumbers judgement.verdict × IsFailingItemOfNumbers judgement.failing_item × IsPageOfNumber judgement.page
-    × IsSpotOfNumbers judgement.cursor
+    × IsSpotOfNumbers judgement.cursor × IsFontOfNumbers judgement.font
 
 -- names of printers as their texts give them, and numbers as the program has them
 pub record IsOfParts (report : Reported) : Type 0 where
   pub names : AllByRecursion (IsWithin 32) report.names
   pub numbers : IfOk report.answer AreNumbers
 
--- a line of at most 1,000 bytes, of which none but the last is a control code
+-- a line of at most 1,200 bytes, of which none but the last is a control code
 abbrev pub IsSentence : List ℕ → Type 0
-IsSentence text = (words : List ℕ) × (text ≡ words ++ 10 ∷ []) × IsWithin 999 words
+IsSentence text = (words : List ℕ) × (text ≡ words ++ 10 ∷ []) × IsWithin 1_199 words

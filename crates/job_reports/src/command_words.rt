@@ -96,6 +96,7 @@ fn push_code<A: Allocator>(words: &mut Vec<u8, A>, byte: u8) -> Result<(), Alloc
 // ---- the commands that ask for a font
 
 /// Appends the commands that ask for a font, in all seven parts.
+#[tactic(auto, unfolding(crate::specs::CommandWords::font_commands))]
 pub fn push_font_commands<A: Allocator>(
     words: &mut Vec<u8, A>,
     font: &FontRequest,

@@ -5,8 +5,6 @@ ghost use Rattle.job_reports.specs.JobSentences.{
   top_phrase,
 };
 ghost use Rattle.job_reports.specs.JobSentences.{
-};
-ghost use Rattle.job_reports.specs.JobSentences.{
   IsOfParts,
   IsSentence,
   answer_phrase,
@@ -17,6 +15,8 @@ ghost use Rattle.job_reports.specs.JobSentences.{
   fails_where,
   few_words,
   first_of,
+  font_behind,
+  font_phrase,
   for_each,
   for_printer,
   from_character,
@@ -38,14 +38,15 @@ ghost use Rattle.job_reports.specs.JobSentences.{
 ghost use Rattle.job_reports.specs.RefusedNames.{value_key};
 ghost use Rattle.job_reports.specs.Reports.{Reported, number_told, verdict_told};
 
-use crate::command_words::push_command_words;
+use crate::command_words::{push_command_words, push_font_commands};
 use crate::kind::{Kind, kind_of};
 use crate::left_out::{LeftOut, left_out_of, value_words};
 use crate::refused_names::push_called;
 use crate::reports::Report;
+use device_profile::FontRequest;
 use line_words::{push_escaped, push_named, push_reason, short_reason};
 use page_env::Finding;
-use preflight::{FailingItem, SheetSpot, Verdict};
+use preflight::{FailingItem, MissingFont, SheetSpot, Verdict};
 use requests::error_words;
 use shown_bytes::{push_millimetres, push_shown, push_shown_text};
 use std::alloc::{AllocError, Allocator};
@@ -94,6 +95,7 @@ fn push_answer<A: Allocator + Copy>(
             let at = Place {
                 page: report.page(),
                 cursor: report.cursor(),
+                font: report.font(),
                 failing_item: report.failing_item(),
             };
             push_verdict(alloc, line, at, verdict)
@@ -184,6 +186,7 @@ fn push_subject<A: Allocator>(
 struct Place {
     page: Option<u64>,
     cursor: Option<SheetSpot>,
+    font: Option<MissingFont>,
     failing_item: Option<FailingItem>,
 }
 
@@ -195,7 +198,7 @@ fn push_verdict<A: Allocator + Copy>(
     verdict: Verdict,
 ) -> Result<(), AllocError>
     ensures { OnOk result (line.new.items ≡ line.old.items ++
-        verdict_phrase (fails_where at.page at.cursor at.failing_item) verdict) }
+        verdict_phrase (fails_where at.page at.cursor at.font at.failing_item) verdict) }
 {
     match verdict {
         Verdict::Pass { pages, marks } => {
@@ -206,7 +209,7 @@ fn push_verdict<A: Allocator + Copy>(
         Verdict::Fail { place, finding, .. } => {
             push_place(line, place, at)?;
             push_what_fails(alloc, line, at.failing_item, finding)?;
-            push_reason_phrase(line, left_out_of(at.failing_item), finding)
+            push_reason_phrase(line, left_out_of(at.failing_item), at.font, finding)
         }
     }
 }
@@ -302,13 +305,15 @@ fn push_at_command<A: Allocator + Copy>(
 fn push_reason_phrase<A: Allocator>(
     line: &mut Vec<u8, A>,
     left_out: Option<LeftOut>,
+    font: Option<MissingFont>,
     reason: Reason,
 ) -> Result<(), AllocError>
-    ensures { OnOk result (line.new.items ≡ line.old.items ++ reason_phrase left_out reason) }
+    ensures { OnOk result (line.new.items ≡ line.old.items ++
+        reason_phrase left_out font reason) }
 {
     line.extend_from_slice(b": ")?;
     line.extend_from_slice(few_words(left_out, reason))?;
-    push_lacked(line, reason)?;
+    push_lacked(line, font, reason)?;
     line.extend_from_slice(b" (")?;
     push_reason(line, reason)?;
     line.extend_from_slice(b")")
@@ -325,11 +330,50 @@ fn few_words(left_out: Option<LeftOut>, reason: Reason) -> &'static [u8]
     }
 }
 
-/// Appends the character that a face lacks, where that is what is wrong.
-fn push_lacked<A: Allocator>(line: &mut Vec<u8, A>, reason: Reason) -> Result<(), AllocError>
-    ensures { OnOk result (line.new.items ≡ line.old.items ++ lacked reason) }
+/// Appends the commands that ask for a font, if there is one, behind these words.
+fn push_font_behind<A: Allocator>(
+    line: &mut Vec<u8, A>,
+    words: &[u8],
+    font: Option<FontRequest>,
+) -> Result<(), AllocError>
+    ensures { OnOk result (line.new.items ≡ line.old.items ++ font_behind words.now font) }
+{
+    match font {
+        Some(font) => {
+            line.extend_from_slice(words)?;
+            push_font_commands(line, &font)
+        }
+        None => Ok(()),
+    }
+}
+
+/// Appends the font that is asked for, and what selects the nearest face, if that is known.
+fn push_missing_font<A: Allocator>(
+    line: &mut Vec<u8, A>,
+    font: Option<MissingFont>,
+) -> Result<(), AllocError>
+    ensures { OnOk result (line.new.items ≡ line.old.items ++ font_phrase font) }
+{
+    match font {
+        Some(font) => {
+            push_font_behind(line, b", ", Some(font.asked))?;
+            push_font_behind(line, b"; the nearest is ", font.nearest)
+        }
+        None => Ok(()),
+    }
+}
+
+/// Appends the font that no face answers, or the character that a face lacks, where that is what is
+/// wrong.
+fn push_lacked<A: Allocator>(
+    line: &mut Vec<u8, A>,
+    font: Option<MissingFont>,
+    reason: Reason,
+) -> Result<(), AllocError>
+    ensures { OnOk result (line.new.items ≡ line.old.items ++ lacked font reason) }
 {
     match reason {
+        Reason::Finding(Finding::NoFont) => push_missing_font(line, font),
         Reason::Finding(Finding::NoGlyph(code)) => {
             line.push(b' ')?;
             push_escaped(line, &[code])
@@ -468,7 +512,7 @@ fn push_first_of<A: Allocator>(
 
 // ---- how long a sentence is
 
-/// A sentence has at most 1,000 bytes, of which none but the last is a control code. Names of
+/// A sentence has at most 1,200 bytes, of which none but the last is a control code. Names of
 /// printers have at most 32, and a long name of a job or of a cause stands in part.
 pub fn sentences_are_short()
     ensures { (report : Reported) → IsOfParts report → IsSentence (job_sentence report) }

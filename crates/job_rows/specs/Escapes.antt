@@ -1,12 +1,9 @@
--- Bytes as they stand in a text of HTML, and in the address of a picture.
+-- Bytes as they stand in a text of HTML.
 use Rattle.std.specs.Prelude.{ℕ, ◌==◌, ◌&&◌, ◌||◌, not, nat_le, if◌then◌else◌, Bool, true, List, [], ◌∷◌, flat_map}
 use Rattle.std.specs.Prelude.{codes}
-use Rattle.shown_bytes.specs.Shown.{hex_byte}
 
 abbrev pub is_between : (first last b : ℕ) → Bool
 is_between first last b = nat_le first b && nat_le b last
-
--- ---- a text
 
 -- the end of a line, what shows in ASCII, and the bytes of letters behind ASCII
 abbrev pub is_kept : ℕ → Bool
@@ -33,22 +30,3 @@ is_inert b = not (((b == 34 || b == 39) || b == 60) || b == 62)
 abbrev pub are_inert : List ℕ → Bool
 are_inert [] = true
 are_inert (b ∷ text) = is_inert b && are_inert text
-
--- ---- an address
-
--- `(`, `)`, what stands from `,` to `:`, and `=`
-abbrev pub is_sign : ℕ → Bool
-is_sign b = (is_between 40 41 b || is_between 44 58 b) || b == 61
-
-abbrev pub is_latin : ℕ → Bool
-is_latin b = is_between 65 90 b || is_between 97 122 b
-
-abbrev pub is_plain : ℕ → Bool
-is_plain b = is_sign b || is_latin b
-
--- any other byte is a percent sign and two hexadecimal digits
-abbrev pub address_byte : ℕ → List ℕ
-address_byte b = if is_plain b then b ∷ [] else 37 ∷ hex_byte b
-
-abbrev pub address_text : List ℕ → List ℕ
-address_text bytes = flat_map address_byte bytes

@@ -63,7 +63,8 @@ fn push_listed<A: Allocator>(
 }
 
 /// Appends the picture of a page.
-pub(crate) fn push_page<A: Allocator>(
+pub(crate) fn push_page<A: Allocator + Copy>(
+    alloc: A,
     text: &mut Vec<u8, A>,
     answer: Result<Verdict, Error>,
     page: &Option<Result<Vec<u8, A>, Error>>,
@@ -73,7 +74,7 @@ pub(crate) fn push_page<A: Allocator>(
 {
     match page {
         None => Ok(()),
-        Some(Ok(picture)) => push_picture(text, answer, picture.as_slice()),
+        Some(Ok(picture)) => push_picture(alloc, text, answer, picture.as_slice()),
         Some(Err(error)) => push_lost_page(text, *error),
     }
 }

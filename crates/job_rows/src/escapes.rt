@@ -1,12 +1,10 @@
-//! Bytes as they stand in a text of HTML, and in the address of a picture.
+//! Bytes as they stand in a text of HTML.
 //!
 //! An error means that the allocator refused a request; so in each file of this crate.
 ghost use Rattle.std.specs.Prelude.{◌≡◌, ◌++◌, ℕ, List, OnOk, true};
-ghost use Rattle.job_rows.specs.Escapes.{address_byte, address_text, are_inert, html_byte};
-ghost use Rattle.job_rows.specs.Escapes.{html_text, is_between, is_kept, is_latin, is_plain};
-ghost use Rattle.job_rows.specs.Escapes.{is_sign, kept_byte};
+ghost use Rattle.job_rows.specs.Escapes.{are_inert, html_byte, html_text, is_between, is_kept};
+ghost use Rattle.job_rows.specs.Escapes.{kept_byte};
 
-use shown_bytes::hex_byte;
 use std::alloc::{AllocError, Allocator};
 
 /// Appends a text of UTF-8, whatever it holds: nothing of it begins or ends a tag, an attribute or
@@ -59,51 +57,6 @@ fn is_kept(byte: u8) -> bool
 pub fn texts_are_inert()
     ensures { (text : List ℕ) → are_inert (html_text text) ≡ true }
 {}
-
-/// Appends bytes as the address of a picture has them: each that is none of some letters, digits
-/// and signs by a percent sign and two hexadecimal digits.
-pub(crate) fn push_address<A: Allocator>(
-    out: &mut Vec<u8, A>,
-    bytes: &[u8],
-) -> Result<(), AllocError>
-    ensures { OnOk result (out.new.items ≡ out.old.items ++ address_text bytes.now) }
-{
-    for byte in bytes {
-        push_address_byte(out, *byte)?;
-    }
-    Ok(())
-}
-
-/// Appends a byte of an address.
-fn push_address_byte<A: Allocator>(out: &mut Vec<u8, A>, byte: u8) -> Result<(), AllocError>
-    ensures { OnOk result (out.new.items ≡ out.old.items ++ address_byte byte) }
-{
-    if is_plain(byte) {
-        out.push(byte)?;
-        return Ok(());
-    }
-    out.extend_from_slice(b"%")?;
-    out.extend_from_slice(&hex_byte(byte))
-}
-
-/// Whether a byte means itself in an address: of what pictures are mostly made of.
-fn is_plain(byte: u8) -> bool
-    ensures { result ≡ is_plain byte }
-{
-    is_sign(byte) || is_latin(byte)
-}
-
-fn is_sign(byte: u8) -> bool
-    ensures { result ≡ is_sign byte }
-{
-    is_between(40, 41, byte) || is_between(44, 58, byte) || byte == 61
-}
-
-fn is_latin(byte: u8) -> bool
-    ensures { result ≡ is_latin byte }
-{
-    is_between(65, 90, byte) || is_between(97, 122, byte)
-}
 
 fn is_between(first: u8, last: u8, byte: u8) -> bool
     ensures { result ≡ is_between first last byte }

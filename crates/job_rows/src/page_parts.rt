@@ -2,7 +2,8 @@
 //!
 //! How many jobs pass is counted by the style, from row to row, so that no number has to be kept;
 //! the foot, which is written last, has the counts, and the style puts it above the rows. A row
-//! that the filter hides is not counted. Nothing is loaded: the policy in the head forbids it.
+//! that the filter hides is not counted; the foot says then how many rows are left, so that paper
+//! tells it, too. Nothing is loaded: the policy in the head forbids it.
 
 /// Up to the names of the printers.
 pub(crate) const HEAD: &str = "<!DOCTYPE html>
@@ -67,7 +68,7 @@ img { display: block; box-sizing: border-box; max-width: 100%; height: auto; max
   summary { padding-left: 4.6em; text-indent: -4.6em; list-style: none; break-inside: avoid; }
   summary b { min-width: 4.3em; }
   details[open] > summary { break-after: avoid; }
-  pre { white-space: pre-wrap; }
+  pre { white-space: pre-wrap; overflow-wrap: anywhere; }
   figure { break-inside: avoid; }
   img { max-height: 55vh; }
 }
@@ -98,10 +99,12 @@ pub(crate) const FOOT: &str = "</main>
 <span class=\"pass\">passed</span>
 <span class=\"fail\">failed</span>
 <span class=\"error\">without a verdict</span>
+<output hidden></output>
 </footer>
 <script>
 const form = document.forms[0];
 const rows = [...document.querySelectorAll('details')];
+const told = document.querySelector('output');
 for (const name of new Set(rows.map(row => row.dataset.printer)))
   if (name) form.printer.add(new Option(name));
 form.oninput = () => {
@@ -114,6 +117,9 @@ form.oninput = () => {
       && (printer === '' || about === '' || about === printer)
       && words.every(word => text.includes(word)));
   }
+  const left = rows.filter(row => !row.hidden).length;
+  told.value = left + ' of ' + rows.length + ' rows; the others are left out';
+  told.hidden = left === rows.length;
 };
 form.onsubmit = () => false;
 form.reset();

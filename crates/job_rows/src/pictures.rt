@@ -1,14 +1,17 @@
 //! The picture of a page, in a job's row.
-ghost use Rattle.std.specs.Prelude.{◌≡◌, ◌++◌, OnOk};
-ghost use Rattle.job_rows.specs.Pictures.{caption, figure, picture_part, too_large};
+ghost use Rattle.std.specs.Prelude.{◌≡◌, ◌++◌, IfOk, OnOk, string_bytes};
+ghost use Rattle.job_rows.specs.Pictures.{address_text, caption, failing_caption, figure};
+ghost use Rattle.job_rows.specs.Pictures.{picture_part, too_large};
 
-use crate::escapes::push_address;
+use base64::engine::general_purpose::STANDARD;
+use job_reports::{Kind, kind_of};
 use preflight::Verdict;
 use std::alloc::{AllocError, Allocator};
 use streams::Error;
 
 /// Appends a picture, unless it is empty, since the job has no such page.
-pub(crate) fn push_picture<A: Allocator>(
+pub(crate) fn push_picture<A: Allocator + Copy>(
+    alloc: A,
     text: &mut Vec<u8, A>,
     answer: Result<Verdict, Error>,
     picture: &[u8],
@@ -18,7 +21,7 @@ pub(crate) fn push_picture<A: Allocator>(
     if picture.is_empty() {
         return Ok(());
     }
-    push_figure(text, answer, picture)
+    push_figure(alloc, text, answer, picture)
 }
 
 /// Appends that a picture is left to the command that draws it.
@@ -35,7 +38,8 @@ pub(crate) fn push_too_large<A: Allocator>(text: &mut Vec<u8, A>) -> Result<(), 
 /// Appends a picture with its caption. It is a picture of its own, so that nothing in it reaches
 /// the document, and that a browser takes it apart only once it is looked at.
 #[tactic(auto, unfolding(crate::specs::Pictures::figure))]
-fn push_figure<A: Allocator>(
+fn push_figure<A: Allocator + Copy>(
+    alloc: A,
     text: &mut Vec<u8, A>,
     answer: Result<Verdict, Error>,
     picture: &[u8],
@@ -45,20 +49,61 @@ fn push_figure<A: Allocator>(
     text.extend_from_slice(b"<figure>\n<figcaption>")?;
     text.extend_from_slice(caption(answer))?;
     text.extend_from_slice(
-        b", from the first settings of the panel</figcaption>\n\
-        <img loading=\"lazy\" alt=\"\" src=\"data:image/svg+xml,",
+        b"</figcaption>\n\
+        <img loading=\"lazy\" alt=\"The page\" src=\"data:image/svg+xml;base64,",
     )?;
-    push_address(text, picture)?;
+    push_address(alloc, text, picture)?;
     text.extend_from_slice(b"\">\n</figure>\n")
 }
 
-/// Which page it is.
+/// Appends the bytes of a picture as its address has them.
+fn push_address<A: Allocator + Copy>(
+    alloc: A,
+    text: &mut Vec<u8, A>,
+    picture: &[u8],
+) -> Result<(), AllocError>
+    ensures { OnOk result (text.new.items ≡ text.old.items ++ address_text picture.now) }
+{
+    let address = address_of(alloc, picture)?;
+    text.extend_from_slice(address.as_bytes())
+}
+
+/// The bytes of a picture as its address has them.
+#[tactic(auto, unfolding(crate::specs::Pictures::address_text))]
+fn address_of<A: Allocator>(alloc: A, picture: &[u8]) -> Result<String<A>, AllocError>
+    ensures { IfOk result (λ address. string_bytes address ≡ address_text picture.now) }
+{
+    let mut address = String::new(alloc);
+    STANDARD.encode_string(picture, &mut address)?;
+    Ok(address)
+}
+
+/// Which page it is, and what is seen of it.
 fn caption(answer: Result<Verdict, Error>) -> &'static [u8]
     ensures { result.now ≡ caption answer }
 {
     match answer {
-        Ok(Verdict::Pass { .. }) => b"The first page",
-        Ok(Verdict::Fail { .. }) => b"The page at which the job fails",
+        Ok(Verdict::Pass { .. }) => b"The first page, from the first settings of the panel",
+        // What a caption tells apart is known without the item.
+        Ok(Verdict::Fail { finding, .. }) => failing_caption(kind_of(finding, None)),
         Err(_) => b"",
+    }
+}
+
+/// What is seen of the page at which a job fails by this kind.
+fn failing_caption(kind: Kind) -> &'static [u8]
+    ensures { result.now ≡ failing_caption kind }
+{
+    match kind {
+        Kind::Unchecked | Kind::Wrong | Kind::Printer => {
+            b"The page at which the job fails, from the first settings of the panel"
+        }
+        Kind::Panel => {
+            b"The page as it prints from the first settings of the panel; \
+            others may print it otherwise"
+        }
+        Kind::Differs => {
+            b"The page as it prints on this printer; the first one prints it otherwise"
+        }
     }
 }

@@ -51,13 +51,14 @@ pub fn push_row<A: Allocator + Copy>(
         row_text explanation.now report.now parts.now) }
 {
     push_row_head(alloc, text, report, explanation)?;
-    push_row_body(text, report.verdict(), parts)?;
+    push_row_body(alloc, text, report.verdict(), parts)?;
     text.extend_from_slice(b"</details>\n")
 }
 
 /// Appends what a row opens to.
 #[tactic(auto, unfolding(crate::specs::Rows::row_body))]
-fn push_row_body<A: Allocator>(
+fn push_row_body<A: Allocator + Copy>(
+    alloc: A,
     text: &mut Vec<u8, A>,
     answer: Result<Verdict, Error>,
     parts: &RowParts<A>,
@@ -66,6 +67,6 @@ fn push_row_body<A: Allocator>(
 {
     push_notes(text, &parts.notes)?;
     push_near(text, &parts.near)?;
-    push_page(text, answer, &parts.page)?;
+    push_page(alloc, text, answer, &parts.page)?;
     push_once(text, parts.is_once)
 }

@@ -18,7 +18,7 @@ use Rattle.preflight.specs.declared.failing_item.Judgement.{Judgement}
 use Rattle.streams.specs.declared.error.Error.{Error}
 use Rattle.streams.specs.declared.error.Error.TheVariants.{Read}
 use Rattle.many_jobs.specs.JobObjects.{job_object}
-use Rattle.job_reports.specs.CommandWords.{look_words, setting_words, weight_words}
+use Rattle.job_reports.specs.CommandWords.{font_commands, look_words, setting_words, weight_words}
 use Rattle.shown_bytes.specs.Decimals.{amount, minus}
 use Rattle.shown_bytes.specs.Lengths.{millimetres, signed_hundredths}
 use Rattle.shown_bytes.specs.Lettered.{lettered}
@@ -71,7 +71,7 @@ missing = Ok (record {
 object_of_font : job_object [] (report_of false (codes "a.pcl") missing None)
     ≡ codes
     "{\"asked\":\"ESC (8U ESC (s0p10h12v0s3b4099T\",\"at\":9,\"code\":13,\"finding\":\"NoFont\",\"job\":\"a.pcl\",\"kind\":\"printer\",\"nearest\":\"ESC (8U ESC (s0p10h12v0s-1b4099T\",\"page\":1,\"printer\":\"counter\",\"profile\":1,\"verdict\":\"FAIL\"}\n"
-unfolding serde_json_on_literals is_utf8 chars encode_utf8 digits lettered amount minus setting_words look_words weight_words
+unfolding serde_json_on_literals is_utf8 chars encode_utf8 digits font_commands lettered amount minus setting_words look_words weight_words
 object_of_font = refl
 
 abbrev first_unset : Result Judgement Error

@@ -13,13 +13,12 @@ ghost use Rattle.page_env.specs.CursorPositioning.{move_x_decipoints, move_y_dec
 ghost use Rattle.page_env.specs.CursorPositioning.{move_columns, move_rows};
 ghost use Rattle.page_env.specs.Answers.{CarriesOut, Leads, Steps};
 
-use crate::cell::Cell;
 use crate::cursor::Coordinate;
 use crate::finding::Finding;
 use crate::number::{is_whole_between, whole_of};
 use crate::page::Page;
 use crate::places::{
-    first_line, first_of_page, geometry, geometry_and_column, geometry_and_vmi, target,
+    first_line, geometry, geometry_and_column, geometry_and_vmi, size_and_orientation, target,
     target_down, ticks_in, times, vertical, vertical_with,
 };
 use device_profile::{Field, Geometry, Profile};
@@ -112,10 +111,7 @@ fn geometry_and_start<A: Allocator>(
               (vertical_place (state_at panel page.now)),
         )) result }
 {
-    let fields = &page.env.fields;
-    let (Cell::Known(size), Cell::Known(orientation)) = (fields.size, fields.orientation) else {
-        return Err(first_of_page(fields));
-    };
+    let (size, orientation) = size_and_orientation(page)?;
     let geometry = profile.page_geometry(size, orientation);
     match sign {
         Sign::Absent => {

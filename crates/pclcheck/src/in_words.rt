@@ -262,7 +262,8 @@ fn refused_sentence(
 const FOR_PRINTERS: &[u8] = b"this is a profile, and -p takes it\n";
 
 /// What stands behind the name of a printer that is a job.
-const NO_PRINTER: &[u8] = b"this is a job, where a profile has to stand; -p takes a profile\n";
+const NO_PRINTER: &[u8] =
+    b"this is a job, where a profile has to stand; -p takes a profile, and without -p JOB stands before the PROFILEs\n";
 
 /// What stands behind the name of a fleet that is a job.
 const NO_FLEET: &[u8] = b"this is a job, and no fleet; -f takes a text with a profile a line\n";

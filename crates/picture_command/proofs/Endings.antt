@@ -15,6 +15,7 @@ use Rattle.streams.specs.Outlet.{OutletState}
 use Rattle.verdict.specs.declared.failure.Failure.{Failure}
 use Rattle.verdict.specs.Failing.{fault_at, found_at}
 use Rattle.preflight.specs.declared.failing_item.FailingItem.{FailingItem}
+use Rattle.preflight.specs.declared.failing_item.MissingFont.{MissingFont}
 use Rattle.preflight.specs.declared.failing_item.SheetSpot.{SheetSpot}
 use Rattle.streams.specs.declared.error.Error.{Error}
 use Rattle.renderings.specs.declared.outcome.Outcome.{Outcome}
@@ -30,9 +31,9 @@ use Rattle.requests.specs.Selection.{is_behind}
 use Rattle.job_reports.specs.Groups.{Groups}
 use Rattle.job_reports.specs.JobSentences.{FailsAt, fails_at, fails_where}
 use Rattle.picture_command.specs.Carriers.{Finishes, HasRun, Keeps, Steps, search_from}
-use Rattle.picture_command.specs.PageSearch.{Searched, at_item, found_at_failure, open_page, spot_where, text_at_end}
+use Rattle.picture_command.specs.PageSearch.{Searched, at_item, font_where, found_at_failure, open_page, spot_where, text_at_end}
 use Rattle.picture_command.proofs.Searches.{item_goes, item_over, item_found, end_over, end_goes, end_found}
-use Rattle.picture_command.proofs.Spots.{spot_still}
+use Rattle.picture_command.proofs.Spots.{font_still, spot_still}
 use Rattle.picture_command.proofs.Words.{fails_at_item}
 
 -- what was told and kept is due
@@ -81,10 +82,11 @@ module _ (selection : Selection) (job : List ℕ) (group : Groups) (machine : Ma
         → (failure : Failure) → failure ≡ found_at x.place 1 finding → (failing_item : FailingItem) → IsFailingItem failing_item x.item
         → (one_step : Bool) → is_one_step x.item ≡ one_step
         → (cursor : Option SheetSpot) → cursor ≡ spot_where one_step machine'.printer (state_at any_panel machine'.page)
+        → (font : Option MissingFont) → font ≡ font_where one_step machine'.printer (state_at any_panel machine'.page)
         → (r : Result Outcome Error)
-        → Keeps kept kept' (found_at_failure selection job group counts' (fails_where None cursor (Some failing_item)) failure) r
+        → Keeps kept kept' (found_at_failure selection job group counts' (fails_where None cursor font (Some failing_item)) failure) r
         → Ended rendering (StartsWith x) old old kept kept' r
-    item_fails found finding is steps goes failure failure_is failing_item named one_step one cursor stood r told =
+    item_fails found finding is steps goes failure failure_is failing_item named one_step one cursor stood font asked r told =
         let printer : Printer = machine.printer in
         let s : State = state_at any_panel machine.page in
         let at : FailsAt = at_item printer s x.item in
@@ -93,12 +95,15 @@ module _ (selection : Selection) (job : List ℕ) (group : Groups) (machine : Ma
         let before : cursor ≡ spot_where (is_one_step x.item) printer s =
         stood ∙ (ap (λ b. spot_where b machine'.printer (state_at any_panel machine'.page)) (sym one)
         ∙ spot_still machine machine' (is_one_step x.item) halts.1) in
+        let asked_before : font ≡ font_where (is_one_step x.item) printer s =
+        asked ∙ (ap (λ b. font_where b machine'.printer (state_at any_panel machine'.page)) (sym one)
+        ∙ font_still machine machine' (is_one_step x.item) halts.1) in
         kept_ended rendering (StartsWith x) old kept kept'
         (found_at_failure selection job group counts' at (found_at x.place 1 finding)) r
         (item_found selection job group machine counts counts' x finding halts.0 (sym goes))
         (subst (λ (f : Failure). Keeps kept kept' (found_at_failure selection job group counts' at f) r) failure_is
         (subst (λ at. Keeps kept kept' (found_at_failure selection job group counts' at failure) r)
-        (fails_at_item failing_item x.item named printer s cursor before) told))
+        (fails_at_item failing_item x.item named printer s cursor before font asked_before) told))
 
   -- ---- the end of the bytes
 

@@ -12,13 +12,14 @@ use Rattle.page_env.specs.Settings.{State}
 use Rattle.page_machine.specs.Still.{is_one_step}
 use Rattle.preflight.specs.declared.failing_item.FailingItem.{FailingItem}
 use Rattle.preflight.specs.declared.failing_item.FailingItem.TheVariants as failing_items
+use Rattle.preflight.specs.declared.failing_item.MissingFont.{MissingFont}
 use Rattle.preflight.specs.declared.failing_item.SheetSpot.{SheetSpot}
 use Rattle.preflight.specs.FailingItem.{IsFailingItem}
 use Rattle.job_reports.specs.CommandWords.{code_words, command_words}
 use Rattle.job_reports.specs.JobSentences.{fails_where}
 use Rattle.job_reports.specs.LeftOut.{left_out_in, left_out_of}
 use Rattle.job_reports.specs.RefusedNames.{value_key}
-use Rattle.picture_command.specs.PageSearch.{at_item, item_value, item_words, spot_where}
+use Rattle.picture_command.specs.PageSearch.{at_item, font_where, item_value, item_words, spot_where}
 
 simple_words : (item : SimpleItem) → item_words (simple_view item) ≡ flat_map code_words (canon (simple_view item))
 simple_words simple.CarriageReturn = refl
@@ -86,10 +87,12 @@ failing_item_value failing_items.Line item is = sym (ap item_value is.1)
 
 pub fails_at_item : (failing_item : FailingItem) (item : Entry) → IsFailingItem failing_item item → (printer : Printer) (s : State)
     (cursor : Option SheetSpot) → cursor ≡ spot_where (is_one_step item) printer s →
-    fails_where None cursor (Some failing_item) ≡ at_item printer s item
-fails_at_item failing_item item is printer s cursor stood = λ i. record {
+    (font : Option MissingFont) → font ≡ font_where (is_one_step item) printer s →
+    fails_where None cursor font (Some failing_item) ≡ at_item printer s item
+fails_at_item failing_item item is printer s cursor stood font asked = λ i. record {
   page = None;
   cursor = stood i;
+  font = asked i;
   words = codes ", " ++ failing_item_words failing_item item is i;
   value = failing_item_value failing_item item is i;
   left_out = failing_item_leaves failing_item item is i;

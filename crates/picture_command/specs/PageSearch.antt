@@ -7,16 +7,19 @@ use Rattle.pcl_items.specs.Escapes.Commands.{introducer_of, character_of, data_g
 use Rattle.pcl_items.specs.Items.{Entry, Placed, Text, WithData, PjlLine}
 use Rattle.pcl_lexer.specs.Reading.{Reading, Whole, Stopped}
 use Rattle.device_profile.specs.declared.panel.Panel.{Panel}
+use Rattle.device_profile.specs.Nearest.{nearest_request}
 use Rattle.device_profile.specs.Printer.{Printer}
 use Rattle.macro_store.specs.Store.{Store, no_macros}
 use Rattle.page_env.specs.declared.finding.Finding.{Finding}
 use Rattle.page_env.specs.Effect.{first_unset}
+use Rattle.page_env.specs.FontInForce.{font_reads, request_of}
 use Rattle.page_env.specs.Places.{cursor_reads, x_on_sheet, y_on_sheet}
 use Rattle.page_env.specs.Settings.{Settings, State, start_state, user_defaults, unwatched}
 use Rattle.page_machine.specs.Run.{Run, Ending, Done, Halts}
 use Rattle.page_machine.specs.Defining.{job_item_run, job_end_run, macros_after}
 use Rattle.page_machine.specs.Job.{with_macros}
 use Rattle.page_machine.specs.Still.{is_one_step}
+use Rattle.preflight.specs.declared.failing_item.MissingFont.{MissingFont}
 use Rattle.preflight.specs.declared.failing_item.SheetSpot.{SheetSpot}
 use Rattle.sinks.specs.declared.counts.Counts.{Counts}
 use Rattle.sinks.specs.Counts.{capped, counts_after, no_counts}
@@ -56,9 +59,22 @@ spot_of printer s =
     then (Some (record { x = x_on_sheet printer s; y = y_on_sheet printer s }))
     else None
 
--- it is told before an item that is one step
+-- which font is asked for, if no panel decides that, and the nearest face
+abbrev pub font_of : Printer → State → Option MissingFont
+font_of printer s =
+    if is_none (first_unset s.settings (font_reads s.settings.job.font))
+    then (Some (record {
+      asked = request_of printer s;
+      nearest = nearest_request printer.faces (request_of printer s);
+    }))
+    else None
+
+-- both are told before an item that is one step
 abbrev pub spot_where : Bool → Printer → State → Option SheetSpot
 spot_where one_step printer s = if one_step then spot_of printer s else None
+
+abbrev pub font_where : Bool → Printer → State → Option MissingFont
+font_where one_step printer s = if one_step then font_of printer s else None
 
 -- the key of a command with its value: the item's spelling without ESC, where it has no data
 abbrev pub item_value : Entry → Option (List ℕ)
@@ -72,6 +88,7 @@ abbrev pub at_item : Printer → State → Entry → FailsAt
 at_item printer s item = record {
   page = None;
   cursor = spot_where (is_one_step item) printer s;
+  font = font_where (is_one_step item) printer s;
   words = codes ", " ++ item_words item;
   value = item_value item;
   left_out = left_out_in item;

@@ -83,7 +83,7 @@ module _ (job : List ℕ) (group : Groups) (counts : Counts) where
       let here : ℕ → List ℕ = λ place. place_phrase place (nowhere counts).page (nowhere counts).cursor in
       let places : here 0 ++ (nowhere counts).words ≡ here 1 ++ (nowhere counts).words =
       append_cancel_right (here 0 ++ (nowhere counts).words) (here 1 ++ (nowhere counts).words)
-      (reason_phrase (nowhere counts).left_out (early 0).reason) phrases in
+      (reason_phrase (nowhere counts).left_out (nowhere counts).font (early 0).reason) phrases in
       digits_differ (codes " at byte ") page
       (append_cancel_right (named (codes " at byte ") 0 ++ page) (named (codes " at byte ") 1 ++ page) sheet
       (append_cancel_right (here 0) (here 1) (nowhere counts).words places))

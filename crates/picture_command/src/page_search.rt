@@ -11,17 +11,18 @@ ghost use Rattle.job_reports.specs.JobSentences.{fails_where};
 ghost use Rattle.requests.specs.Selection.{is_behind};
 ghost use Rattle.picture_command.specs.Carriers.{Finishes, Keeps, Steps, search_from};
 ghost use Rattle.picture_command.specs.SearchedRests.{search_matters};
-ghost use Rattle.picture_command.specs.PageSearch.{drawn_line, found_at_failure, missing_line};
+ghost use Rattle.picture_command.specs.PageSearch.{drawn_line, font_of, font_where};
+ghost use Rattle.picture_command.specs.PageSearch.{found_at_failure, missing_line};
 ghost use Rattle.picture_command.specs.PageSearch.{missing_part, open_page, search_rendering};
 ghost use Rattle.picture_command.specs.PageSearch.{sentence, spot_of, spot_where, text_at_end};
 
-use device_profile::{Panel, Profile};
+use device_profile::{Panel, Profile, nearest_request};
 use job_reports::{PrinterGroup, Report, push_job_sentence, push_named_first};
 use line_words::push_named;
-use page_env::{Finding, known_cursor};
+use page_env::{Finding, font_request, known_cursor};
 use page_machine::{Machine, Start, Stop};
 use pcl_items::{Item, LexFault, Place};
-use preflight::{FailingItem, Judgement, SheetSpot, Verdict};
+use preflight::{FailingItem, Judgement, MissingFont, SheetSpot, Verdict};
 use renderings::{Outcome, Renderer};
 use requests::{DrawnPages, Selection};
 use sinks::Counts;
@@ -103,6 +104,33 @@ fn spot_where<P: Allocator, B: Allocator + Copy>(
     if one_step { spot_of(machine) } else { None }
 }
 
+/// Which font a machine is asked for, if no panel decides that, and the nearest that its printer
+/// has.
+fn font_of<P: Allocator, B: Allocator + Copy>(machine: &Machine<'_, P, B>) -> Option<MissingFont>
+    ensures { result ≡ font_of machine.now.printer (state_at any_panel machine.now.page) }
+{
+    let profile = machine.profile();
+    match font_request(profile, machine.page()) {
+        Err(_) => None,
+        Ok(asked) => {
+            let nearest = nearest_request(profile.faces(), &asked);
+            Some(MissingFont { asked, nearest })
+        }
+    }
+}
+
+/// The same where an item was one step, so that it is what was asked for before that. It is told of
+/// 13 NoFont alone.
+fn font_where<P: Allocator, B: Allocator + Copy>(
+    machine: &Machine<'_, P, B>,
+    one_step: bool,
+) -> Option<MissingFont>
+    ensures { result ≡ font_where one_step machine.now.printer
+        (state_at any_panel machine.now.page) }
+{
+    if one_step { font_of(machine) } else { None }
+}
+
 // ---- the search
 
 /// Executes the items on a machine that knows the panel, up to the end of the page that is searched
@@ -161,11 +189,12 @@ impl<'p, 'n, B: Allocator + Copy> PageSearch<'p, 'n, B> {
         text: &mut Vec<u8, A>,
         verdict: Verdict,
         cursor: Option<SheetSpot>,
+        font: Option<MissingFont>,
         failing_item: Option<FailingItem>,
     ) -> Result<(), AllocError>
         ensures { OnOk result (text.new.items ≡ text.old.items
             ++ sentence self.now.names.now.job.now self.now.names.now.printers.now
-            (fails_where (Some (open_page self.now.counts)) cursor failing_item) verdict) }
+            (fails_where (Some (open_page self.now.counts)) cursor font failing_item) verdict) }
     {
         let mut line = Vec::new(self.alloc);
         let report = Report {
@@ -176,7 +205,7 @@ impl<'p, 'n, B: Allocator + Copy> PageSearch<'p, 'n, B> {
                 failing_item,
                 page: Some(self.open_page()),
                 cursor,
-                font: None,
+                font,
             }),
             cause: None,
         };
@@ -234,20 +263,21 @@ impl<'p, 'n, B: Allocator + Copy> PageSearch<'p, 'n, B> {
         text: &mut Vec<u8, A>,
         failure: Failure,
         cursor: Option<SheetSpot>,
+        font: Option<MissingFont>,
         failing_item: Option<FailingItem>,
     ) -> Result<Outcome, Error>
         ensures told { Keeps text.old.items text.new.items
             (found_at_failure self.now.selection self.now.names.now.job.now
             self.now.names.now.printers.now self.now.counts
-            (fails_where None cursor failing_item) failure) result }
+            (fails_where None cursor font failing_item) failure) result }
         ensures err { IfErr result (λ error. error ≡ Error.Memory) }
     {
         if self.selection.is_drawn(self.open_page()) {
-            self.push_sentence(text, failure.verdict(), cursor, failing_item)?;
+            self.push_sentence(text, failure.verdict(), cursor, font, failing_item)?;
             return Ok(Outcome::of(failure));
         }
         self.push_missing_part(text)?;
-        self.push_sentence(text, failure.verdict(), cursor, failing_item)?;
+        self.push_sentence(text, failure.verdict(), cursor, font, failing_item)?;
         Ok(Outcome::Done)
     }
 
@@ -288,8 +318,10 @@ impl<B: Allocator + Copy> Renderer for PageSearch<'_, '_, B> {
             Some(finding) => {
                 let failure = Failure::of_finding(place, 1, finding);
                 let failing_item = FailingItem::of(item);
-                let cursor = spot_where(&self.machine, failing_item.is_one_step());
-                let outcome = self.tell_failure(kept, failure, cursor, Some(failing_item))?;
+                let one_step = failing_item.is_one_step();
+                let cursor = spot_where(&self.machine, one_step);
+                let font = font_where(&self.machine, one_step);
+                let outcome = self.tell_failure(kept, failure, cursor, font, Some(failing_item))?;
                 Ok(Some(outcome))
             }
         }
@@ -311,7 +343,8 @@ impl<B: Allocator + Copy> Renderer for PageSearch<'_, '_, B> {
                 Ok(Outcome::Done)
             }
             Some(finding) => {
-                self.tell_failure(kept, Failure::of_finding(place, 1, finding), None, None)
+                let failure = Failure::of_finding(place, 1, finding);
+                self.tell_failure(kept, failure, None, None, None)
             }
         }
     }
@@ -322,7 +355,7 @@ impl<B: Allocator + Copy> Renderer for PageSearch<'_, '_, B> {
         kept: &mut Vec<u8, A>,
         fault: LexFault,
     ) -> Result<Outcome, Error> {
-        self.tell_failure(kept, Failure::of_fault(fault), None, None)
+        self.tell_failure(kept, Failure::of_fault(fault), None, None, None)
     }
 
     ghost adds_at_fault = { λ _ place cause. refl };

@@ -104,7 +104,7 @@ module _ (anywhere : (printer : Printer) (reading : Reading) → IsWatchedAlike 
           subst (HasMore n) (sym (first_is fleet reading each first))
           (more_through n at (watched_items each reading) (goes_there each (counted_at 1 each first) n at has less))
 
-      by : (printers_before : List Printer) → of.printers_before ≡ before → HasMore n first_items
+      by : (printers_before : List Printer) → of.printers_before ≡ printers_before → HasMore n first_items
       by [] is = through of.printer record {
         printers_before = [];
         after = of.after;

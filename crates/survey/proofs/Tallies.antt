@@ -1,8 +1,9 @@
 -- Jobs that are tallied one behind another, and what is told of that.
 use Rattle.std.proofs.Common.{◌≡◌, ◌⊎◌, ℕ, ◌+◌, ◌<◌, ◌≤◌, List, [], ◌∷◌, ◌++◌, length, map, take, get_or, true, false, refl, ap, sym, subst}
-use Rattle.std.proofs.Common.{◌∙◌, Contains, OnOk, Result, inl, inr, arith, length-take-le}
-use Rattle.std.proofs.lemmas.Result.{on_ok_weaker}
-use Rattle.std.proofs.lemmas.List.{get_or-map, length-map, map_more, take_all}
+use Rattle.std.proofs.Common.{◌∙◌, IfErr, OnOk, Result, drop, suc, inl, inr, arith, length-take-le}
+use Rattle.std.proofs.Math.Seq.{split_at}
+use Rattle.std.proofs.lemmas.Result.{IfErr-weaker, on_ok_weaker}
+use Rattle.std.proofs.lemmas.List.{length-map, map-append, map_more, take_all}
 use Rattle.streams.specs.declared.error.Error.{Error}
 use Rattle.streams.specs.declared.error.Error.TheVariants.{Memory, Read, Write, Turns, NoProfile, Items}
 use Rattle.streams.specs.Ended.{JobRead, job_read}
@@ -14,7 +15,8 @@ use Rattle.requests.specs.declared.status.Status.{Status}
 use Rattle.requests.specs.declared.status.Status.TheVariants.{Help, Stopped}
 use Rattle.survey.specs.Surveys.{IsErrorOfSurvey, IsTallied}
 use Rattle.survey.specs.Tally.{Tally, no_refusals}
-use Rattle.survey.specs.Command.{AreTallied, IsNextTallied, IsStop, LeavesSurvey, StopsAt, WritesSurvey, survey_text}
+use Rattle.survey.specs.Command.{AreTallied, EndsUnsurveyed, IsNextTallied, IsStop, LeavesSurvey, StopsAmong, StopsAt}
+use Rattle.survey.specs.Command.{WritesSurvey, survey_text}
 
 -- ---- one job
 
@@ -86,16 +88,32 @@ tallied_all {X} start f xs i ended ended' old new h =
     subst (λ (ys : List X). AreTallied start (map f ys) ended ended' 0 old new) (take_all i xs h)
 
 -- one of the list was not surveyed
-pub stops_among : {X : Type 0} (f : X → List ℕ) (xs : List X) (i : ℕ) (d : X) (status : Status) (err between err' : OutletState) →
-    i < length xs → between ≡ err → StopsAt (f (get_or xs i d)) status between err' →
-    (name : List ℕ) × Contains (map f xs) name × StopsAt name status err err'
-stops_among f xs i d status err between err' within quiet h =
+pub stops_among : {X : Type 0} (start : List ℕ → SourceState) (f : X → List ℕ) (xs : List X) (i : ℕ) (d : X) (old mid : Tally)
+    (status : Status) (ended between ended' : List JobRead) (err quiet err' : OutletState) → i < length xs → quiet ≡ err →
+    AreTallied start (map f (take i xs)) ended between 0 old mid →
+    EndsUnsurveyed (f (get_or xs i d)) status between ended' quiet err' →
+    StopsAmong start (map f xs) old status ended ended' err err'
+stops_among {X} start f xs i d old mid status ended between ended' err quiet err' within same tallied ends =
     let name : List ℕ = f (get_or xs i d) in
-    let inside : i < length (map f xs) = omega (arith, length-map xs f, within) in (
+    let whole : map f xs ≡ map f (take i xs) ++ name ∷ map f (drop (suc i) xs) =
+    ap (map f) (split_at xs i d within) ∙ map-append f (take i xs) (get_or xs i d ∷ drop (suc i) xs) in (
+      map f (take i xs),
+      map f (drop (suc i) xs),
       name,
-      (i, inside, get_or-map f xs i d name within),
-      subst (λ (start : OutletState). StopsAt name status start err') quiet h,
+      between,
+      mid,
+      whole,
+      tallied,
+      subst (λ (begun : OutletState). EndsUnsurveyed name status between ended' begun err') same ends,
     )
+
+-- it was ended
+pub stops_next : {T : Type 0} (r : Result T Status) (name word : List ℕ) (state : SourceState) (ended ended' : List JobRead)
+    (err err' : OutletState) → word ≡ name → ended' ≡ ended ++ job_read word state ∷ [] →
+    IfErr r (λ status. StopsAt name status err err') → IfErr r (λ status. EndsUnsurveyed name status ended ended' err err')
+stops_next r name word state ended ended' err err' word_is ends h =
+    IfErr-weaker r (λ status. StopsAt name status err err') (λ status. EndsUnsurveyed name status ended ended' err err')
+    (λ status stops. (state, subst (λ (n : List ℕ). ended' ≡ ended ++ job_read n state ∷ []) word_is ends, stops)) h
 
 -- ---- what is written
 
@@ -119,3 +137,10 @@ survey_left form names start status ended ended' out out' err err' old new table
       subst (λ (t : Tally). WritesSurvey (survey_text form names t) status out out') table_is written,
       quiet,
     )
+
+-- one of them was not
+pub stopped_of_none : (start : List ℕ → SourceState) (names : List (List ℕ)) (old : Tally) (status : Status)
+    (ended ended' : List JobRead) (err err' : OutletState) → old ≡ no_refusals →
+    StopsAmong start names old status ended ended' err err' → StopsAmong start names no_refusals status ended ended' err err'
+stopped_of_none start names old status ended ended' err err' none stopped =
+    subst (λ (tally : Tally). StopsAmong start names tally status ended ended' err err') none stopped

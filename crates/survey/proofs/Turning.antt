@@ -3,6 +3,7 @@ use Rattle.std.proofs.Common.{◌≡◌, ◌≢◌, ℕ, ◌+◌, ◌*◌, ◌<�
 use Rattle.std.proofs.Common.{arith, refl, inl, inr}
 use Rattle.std.specs.Prelude.{⊤, ◌||◌, ◌&&◌, nat_lt, if◌then◌else◌}
 use Rattle.std.proofs.lemmas.Bool.{cond_both}
+use Rattle.std.specs.Int.{is_in_range}
 use Rattle.pcl_items.specs.declared.pcl.command.Group.{Group}
 use Rattle.pcl_items.specs.declared.fault.LexCause.{LexCause}
 use Rattle.pcl_items.specs.declared.fault.LexCause.TheVariants as causes
@@ -146,7 +147,8 @@ introduced_goes p i b = cond_both (is_group_or_parameter b) _ _ GoesOn (λ _. in
 
 escape_goes : (p : Passing) (b : ℕ) → GoesOn (behind_escape p b)
 escape_goes p b =
-    cond_both _ _ _ GoesOn (λ _. inl refl) (λ _. cond_both _ _ _ GoesOn (λ _. inl refl) (λ _. inr (refl, home_back p.home)))
+    cond_both (is_in_range 33 47 b) _ _ GoesOn (λ _. inl refl)
+    (λ _. cond_both (is_in_range 48 126 b) _ _ GoesOn (λ _. inl refl) (λ _. inr (refl, home_back p.home)))
 
 grouped_goes : (p : Passing) (i group : ℕ) (count : Count) (place b : ℕ) → GoesOn (in_grouped p i group count place b)
 grouped_goes p i group count place b =

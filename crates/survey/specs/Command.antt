@@ -1,5 +1,5 @@
 -- What the command `survey` leaves.
-use Rattle.std.specs.Prelude.{◌≡◌, ◌⊎◌, ℕ, ◌+◌, List, [], ◌∷◌, ◌++◌, codes, Contains, IsFalse, IsTrue, ⊤}
+use Rattle.std.specs.Prelude.{◌≡◌, ◌⊎◌, ℕ, ◌+◌, List, [], ◌∷◌, ◌++◌, codes, IsFalse, IsTrue, ⊤}
 use Rattle.streams.specs.declared.error.Error.TheVariants.{Memory, Write, Turns}
 use Rattle.streams.specs.Ended.{JobRead, job_read}
 use Rattle.streams.specs.Outlet.{OutletState, Adds, AddsFront}
@@ -53,10 +53,23 @@ WritesSurvey text (Stopped Write) out out' = IsTrue out'.failed × AddsFront out
 WritesSurvey text (Stopped Memory) out out' = out' ≡ out
 WritesSurvey text _ out out' = ⊥
 
+-- the job of this name was ended, and not surveyed
+abbrev pub EndsUnsurveyed : List ℕ → Status → List JobRead → List JobRead → OutletState → OutletState → Type 0
+EndsUnsurveyed name status ended ended' err err' =
+    (state : SourceState) × (ended' ≡ ended ++ job_read name state ∷ []) × StopsAt name status err err'
+
+-- one of the jobs of these names was not surveyed; those of the names before it were, and it is the last that was ended
+abbrev pub StopsAmong : (List ℕ → SourceState) → List (List ℕ) → Tally → Status → List JobRead → List JobRead →
+    OutletState → OutletState → Type 0
+StopsAmong start names old status ended ended' err err' =
+    (surveyed others : List (List ℕ)) × (name : List ℕ) × (between : List JobRead) × (tally : Tally)
+    × (names ≡ surveyed ++ name ∷ others) × AreTallied start surveyed ended between 0 old tally
+    × EndsUnsurveyed name status between ended' err err'
+
 -- All jobs were surveyed, and what is counted of them is written; or one of them was not, and nothing is written.
 abbrev pub LeavesSurvey : Form → List (List ℕ) → (List ℕ → SourceState) → Status → List JobRead → List JobRead →
     OutletState → OutletState → OutletState → OutletState → Type 0
 LeavesSurvey form names start status ended ended' out out' err err' =
     ((tally : Tally) × AreTallied start names ended ended' 0 no_refusals tally
     × WritesSurvey (survey_text form names tally) status out out' × (err' ≡ err))
-    ⊎ ((name : List ℕ) × Contains names name × StopsAt name status err err' × (out' ≡ out))
+    ⊎ (StopsAmong start names no_refusals status ended ended' err err' × (out' ≡ out))

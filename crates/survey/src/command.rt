@@ -1,8 +1,8 @@
 //! The command `survey`.
 
-ghost use Rattle.std.specs.Prelude.{◌≡◌, ◌++◌, Contains, IfErr, IfOk, IsFalse, List, OnOk, map, ℕ};
-ghost use Rattle.survey.specs.Command.{AreTallied, IsNextTallied, LeavesSurvey, StopsAt};
-ghost use Rattle.survey.specs.Command.{WritesSurvey, survey_text};
+ghost use Rattle.std.specs.Prelude.{◌≡◌, ◌++◌, IfErr, IfOk, IsFalse, OnOk, map};
+ghost use Rattle.survey.specs.Command.{AreTallied, EndsUnsurveyed, IsNextTallied, LeavesSurvey};
+ghost use Rattle.survey.specs.Command.{StopsAmong, StopsAt, WritesSurvey, survey_text};
 ghost use Rattle.survey.specs.Surveys.{IsErrorOfSurvey, IsTallied};
 ghost use Rattle.survey.specs.Tally.{no_refusals};
 
@@ -71,9 +71,9 @@ fn survey_all<'n, J: Jobs<'n>, E: Outlet>(
     ensures tallied { OnOk result (AreTallied (J.start jobs.old) (map (λ name. name.now) names.now)
         (J.ended jobs.old) (J.ended jobs.new) 0 surveyor.old.tally surveyor.new.tally) }
     ensures quiet { OnOk result (stderr.new ≡ stderr.old) }
-    ensures stopped { IfErr result (λ status. (name : List ℕ) ×
-        Contains (map (λ name. name.now) names.now) name ×
-        StopsAt name status (E.state stderr.old) (E.state stderr.new)) }
+    ensures stopped { IfErr result (λ status. StopsAmong (J.start jobs.old)
+        (map (λ name. name.now) names.now) surveyor.old.tally status
+        (J.ended jobs.old) (J.ended jobs.new) (E.state stderr.old) (E.state stderr.new)) }
 {
     for (number, name) in names.iter().enumerate() {
         survey_next(alloc, jobs, number as u64, name, surveyor, stderr)?;
@@ -95,8 +95,8 @@ fn survey_next<'n, J: Jobs<'n>, E: Outlet>(
         (J.ended jobs.old) (J.ended jobs.new) number surveyor.old.tally surveyor.new.tally) }
     ensures start { J.start jobs.new ≡ J.start jobs.old }
     ensures quiet { OnOk result (stderr.new ≡ stderr.old) }
-    ensures stopped { IfErr result (λ status. StopsAt name.now status
-        (E.state stderr.old) (E.state stderr.new)) }
+    ensures stopped { IfErr result (λ status. EndsUnsurveyed name.now status
+        (J.ended jobs.old) (J.ended jobs.new) (E.state stderr.old) (E.state stderr.new)) }
 {
     let bytes = name.as_bytes();
     let mut job = jobs.job(bytes);

@@ -1,7 +1,7 @@
 //! The commands of HP's manuals behind which data stand.
 
 ghost use Rattle.std.specs.Prelude.{◌≡◌};
-ghost use Rattle.survey.specs.DataCommands.{has_data};
+ghost use Rattle.survey.specs.DataCommands.{has_data, has_image_data};
 
 /// Whether the number of the command of an introducer, a group character and a termination
 /// character counts bytes of data that stand behind it.

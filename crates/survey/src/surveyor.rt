@@ -177,6 +177,7 @@ impl<A: Allocator> Surveyor<A> {
 }
 
 impl<A: Allocator> Consumer<()> for Surveyor<A> {
+    ghost use Rattle.streams.specs.declared.error.Error.{Error};
     ghost use Rattle.survey.specs.Carriers.Rooms.{survey_leaves};
 
     type Answer = ();

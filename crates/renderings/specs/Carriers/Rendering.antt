@@ -110,7 +110,7 @@ abbrev pub RendersDecided : LexerState → LexerState → ℕ → Result (Option
 RendersDecided lexer lexer' total result rest_before rest_behind written written' kept kept' =
     (first : Rendering) (start : OutletState) (bytes : List ℕ) →
     HasRendered first start bytes lexer rest_before written kept → total ≡ length bytes →
-    RenderedTo first start lexer.ended bytes lexer' after written' kept' result
+    RenderedTo first start lexer.ended bytes lexer' rest_behind written' kept' result
 
 -- The lexer reads on in the same bytes. Where all that they decide was rendered, more may come, and the renderer is in
 -- the mode in which these are read.

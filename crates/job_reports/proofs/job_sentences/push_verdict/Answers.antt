@@ -9,4 +9,4 @@ returns-in_ok-push_named-in-Pass-2 g c =
     three_appended c.extend_from_slice.result c.args.line.now.items _ _ _ (named (codes " (pages=") c.in-Pass.pages)
     (named (codes " marks=") c.in-Pass.marks) (codes ")") _
     c.in_ok-push_named-in-Pass.ensures c.in_ok-push_named-in-Pass-2.ensures c.extend_from_slice.ensures.items
-    (ap (verdict_phrase (fails_where c.args.at.page c.args.at.cursor c.args.at.failing_item)) c.in-Pass.is)
+    (ap (verdict_phrase (fails_where c.args.at.page c.args.at.cursor c.args.at.font c.args.at.failing_item)) c.in-Pass.is)

@@ -1,12 +1,11 @@
 use Rattle.std.proofs.Common.{◌++◌, List, ℕ, ap, codes, sym}
 use Rattle.job_reports.proofs.Appending.{five_appended}
-use Rattle.job_rows.specs.Escapes.{address_text}
-use Rattle.job_rows.specs.Pictures.{figure}
+use Rattle.job_rows.specs.Pictures.{address_text, figure}
 use Rattle.job_rows.proofs.pictures.push_figure.Goals as goal
 
 abbrev behind : List ℕ
 behind =
-    codes ", from the first settings of the panel</figcaption>\n<img loading=\"lazy\" alt=\"\" src=\"data:image/svg+xml,"
+    codes "</figcaption>\n<img loading=\"lazy\" alt=\"The page\" src=\"data:image/svg+xml;base64,"
 
 pub returns : goal.returns
 unfolding figure

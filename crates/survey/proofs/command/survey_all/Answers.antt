@@ -24,8 +24,9 @@ pub returns-in_err-survey_next-clause-stopped : goal.returns-in_err-survey_next-
 returns-in_err-survey_next-clause-stopped g c =
     let same = err_from_is_err_and c.from_residual.result c.from_residual.ensures.1 in
     rw (same.1, same.2)
-    (stops_among (λ name. name.now) c.args.names.now c.loop-number.number _ _ _ _ _ c.loop-number-test.true
-    (ap g.E.Outlet.state c.loop-number.invariant.quiet) c.in_err-survey_next.ensures.stopped)
+    (stops_among (g.J.Jobs.start c.args.jobs.now) (λ name. name.now) c.args.names.now c.loop-number.number _ _ _ _ _ _ _ _ _ _
+    c.loop-number-test.true (ap g.E.Outlet.state c.loop-number.invariant.quiet) c.loop-number.invariant.tallied
+    c.in_err-survey_next.ensures.stopped)
 
 pub returns-clause-tallied : goal.returns-clause-tallied
 returns-clause-tallied g c =

@@ -1,5 +1,5 @@
 use Rattle.std.proofs.Common.{ap, inr, map, refl}
-use Rattle.survey.proofs.Tallies.{survey_left}
+use Rattle.survey.proofs.Tallies.{stopped_of_none, survey_left}
 use Rattle.survey.proofs.command.survey_with.Goals as goal
 
 pub returns-in-Ok : goal.returns-in-Ok
@@ -10,4 +10,8 @@ returns-in-Ok g c =
 
 pub returns-in-Err : goal.returns-in-Err
 returns-in-Err g c =
-    let stopped = c.in-Err.ensures.stopped in inr (stopped.0, stopped.1, stopped.2, refl)
+    inr (
+      stopped_of_none (g.J.Jobs.start c.args.jobs.now) (map (λ name. name.now) c.args.names.now) c.args.surveyor.now.tally _ _ _ _ _
+          c.requires.begun c.in-Err.ensures.stopped,
+      refl,
+    )

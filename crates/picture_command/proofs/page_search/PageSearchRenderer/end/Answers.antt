@@ -39,5 +39,5 @@ returns-in-Some-clause-rendered g c =
     end_fails own.selection own.names.now.job.now own.names.now.printers.now own.machine own.counts c.finish_on.new.counts
     (g.W.Outlet.state c.args._outlet.now) c.args.kept.now.items c.tell_failure.new.text.items c.args.place
     c.in_ok-found.found c.in-Some.finding c.in-Some.is c.in_ok-found.ensures.finishes c.if-is_over.ensures
-    c.of_finding.result c.of_finding.ensures
+    c.of_finding-failure.result c.of_finding-failure.ensures
     c.tell_failure.result c.tell_failure.ensures.told

@@ -45,6 +45,7 @@ returns-in_ok-outcome-in-Some-clause-rendered g c =
     (at c.args.place (view c.args.item.now)) c.step_on.new.machine
     c.in_ok-found.found c.in-Some.finding c.in-Some.is c.in_ok-found.ensures.steps c.if-is_over.ensures c.of_finding-failure.result
     c.of_finding-failure.ensures c.of-failing_item.result c.of-failing_item.ensures
-    c.is_one_step.result (c.is_one_step.ensures (view c.args.item.now) c.of-failing_item.ensures)
+    c.is_one_step-one_step.result (c.is_one_step-one_step.ensures (view c.args.item.now) c.of-failing_item.ensures)
     c.spot_where-cursor.result c.spot_where-cursor.ensures
+    c.font_where-font.result c.font_where-font.ensures
     (Ok c.in_ok-outcome-in-Some.outcome) c.in_ok-outcome-in-Some.ensures.told

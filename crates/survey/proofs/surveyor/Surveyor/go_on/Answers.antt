@@ -14,16 +14,16 @@ pub loop-goes-preserved : goal.loop-goes-preserved
 loop-goes-preserved g c = record {
   surveyed =
       surveyed_on c.args.whole c.args.self.now c.loop-goes.self c.step.new.self c.loop-goes.invariant.surveyed
-      c.in_ok-step.ensures.surveyed;
-  waits = λ e. c.in_ok-step.ensures.waits (ap Ok e);
-  total = c.in_ok-step.ensures.total ∙ c.loop-goes.invariant.total;
+      c.in_ok-goes.ensures.surveyed;
+  waits = λ e. c.in_ok-goes.ensures.waits (ap Ok e);
+  total = c.in_ok-goes.ensures.total ∙ c.loop-goes.invariant.total;
 }
 
 pub loop-goes-smaller : goal.loop-goes-smaller
 loop-goes-smaller g c =
     goes_less _ c.loop-goes.goes (due c.step.new.self.standing c.step.new.self.rest)
-    (due c.loop-goes.self.standing c.loop-goes.self.rest) c.loop-goes-test.true (λ e. c.in_ok-step.ensures.less (ap Ok e))
-    c.in_ok-step.ensures.no_more
+    (due c.loop-goes.self.standing c.loop-goes.self.rest) c.loop-goes-test.true (λ e. c.in_ok-goes.ensures.less (ap Ok e))
+    c.in_ok-goes.ensures.no_more
 
 pub returns-clause-surveyed : goal.returns-clause-surveyed
 returns-clause-surveyed g c = c.loop-goes.invariant.surveyed
