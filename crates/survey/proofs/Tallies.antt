@@ -57,7 +57,7 @@ tallied_more start [] name ended between ended' number old mid new h next =
     subst (λ (tally : Tally). IsNextTallied start name ended ended' (number + 0) tally new) h.1
     (subst (λ (states : List JobRead). IsNextTallied start name states ended' (number + 0) mid new) h.0 next) in
     let same : number + 0 ≡ number = omega arith in
-    (ended', new, subst (λ n. IsNextTallied start name ended ended' n old new) same first, refl, refl)
+    (ended', new, subst (λ n. IsNextTallied start name ended ended' n old new) same first, (refl, refl))
 tallied_more start (other ∷ names) name ended between ended' number old mid new h next =
     let same : number + length (other ∷ names) ≡ number + 1 + length names = omega arith in
     let behind : IsNextTallied start name between ended' (number + 1 + length names) mid new =

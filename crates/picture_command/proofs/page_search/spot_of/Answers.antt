@@ -16,7 +16,7 @@ returns-in-Err g c =
 pub returns-in-Ok : goal.returns-in-Ok
 returns-in-Ok g c =
     let known = c.in-Ok.ensures any_panel in
-    (λ i. Some (record { x = c.spot_at.ensures.x i; y = c.spot_at.ensures.y i }))
+    (λ i. Some (record { x = c.of.ensures.x i; y = c.of.ensures.y i }))
     ∙ spot_known c.profile.result.now (state_at any_panel c.page.result.now) c.in-Ok.place.x c.in-Ok.place.y
     known.0 known.1 known.2
     ∙ ap (λ (p : Printer). spot_of p (state_at any_panel c.page.result.now)) c.profile.ensures

@@ -9,8 +9,8 @@ pub returns-in-Ok : goal.returns-in-Ok
 returns-in-Ok g c = λ panel.
     let known = c.in-Ok.ensures panel in
     let printer : Printer = c.args.machine.now.printer in (
-      c.spot_at.ensures.x ∙ known.1 ∙ ap (λ (p : Printer). x_on_sheet p (state_at panel c.page.result.now)) c.profile.ensures
+      c.of.ensures.x ∙ known.1 ∙ ap (λ (p : Printer). x_on_sheet p (state_at panel c.page.result.now)) c.profile.ensures
           ∙ ap (λ (q : Page). x_on_sheet printer (state_at panel q)) c.page.ensures,
-      c.spot_at.ensures.y ∙ known.2 ∙ ap (λ (p : Printer). y_on_sheet p (state_at panel c.page.result.now)) c.profile.ensures
+      c.of.ensures.y ∙ known.2 ∙ ap (λ (p : Printer). y_on_sheet p (state_at panel c.page.result.now)) c.profile.ensures
           ∙ ap (λ (q : Page). y_on_sheet printer (state_at panel q)) c.page.ensures,
     )

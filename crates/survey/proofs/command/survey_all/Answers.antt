@@ -5,7 +5,10 @@ use Rattle.survey.proofs.command.survey_all.Goals as goal
 
 pub survey_next-requires : goal.survey_next-requires
 survey_next-requires g c =
-    subst (λ stderr. IsFalse (g.E.Outlet.state stderr).failed) (sym c.loop-number.invariant.quiet) c.requires
+    λ k. (
+      (refl, tt),
+      subst (λ stderr. IsFalse (g.E.Outlet.state stderr).failed) (sym c.loop-number.invariant.quiet) c.requires,
+    )
 
 pub loop-number-init : goal.loop-number-init
 loop-number-init g c = record { start = refl; quiet = refl; tallied = (refl, refl) }
