@@ -7,6 +7,7 @@ mod commands;
 mod form_words;
 mod many_words;
 mod panel_words;
+mod pdf_words;
 mod picture_words;
 mod profile_tool_words;
 mod profile_words;

@@ -8,6 +8,7 @@ use crate::code_words::code_asked;
 use crate::commands::{CommandName, command, command_asked};
 use crate::form_words::form_asked;
 use crate::panel_words::ChoiceFault;
+use crate::pdf_words::pdf_request;
 use crate::picture_words::picture_request;
 use crate::profile_words::profile_request;
 use crate::survey_words::survey_request;
@@ -151,6 +152,12 @@ fn overwritten(request: &Request<'_>) -> Option<Input>
 {
     let (job, profile, out) = match request {
         Request::Plain { job, out } => (job, None, out),
+        Request::Pdf {
+            job,
+            profile,
+            out,
+            ..
+        } => (job, Some(profile), out),
         Request::Pin {
             job,
             profile,
@@ -208,6 +215,9 @@ fn request_of<'a>(
     }
     if let Some(found) = matches.subcommand_matches("picture") {
         return picture_request(alloc, found);
+    }
+    if let Some(found) = matches.subcommand_matches("pdf") {
+        return pdf_request(alloc, found);
     }
     if let Some(found) = matches.subcommand_matches("explain") {
         let code = code_asked(found);
