@@ -260,11 +260,10 @@ def edits(tree: Tree) -> str:
     if not (tree.root / CAME).is_file():
         return f"{head} What comes of them without their clause is to be tried."
     came = {edit: said for edit, said in lines_by_edit(tree.text(CAME)) if edit in known}
-    counts = [f"`{crate}` {'/'.join(map(str, edits_of(crate, known, came)))}"
-              for crate in sorted(crates)]
-    told = ("[edit_outcomes.txt](edit_outcomes.txt) has what came of each without its clause. "
-            "By crate, all / those that prove then / those refused still:")
-    return f"{head} {told} {', '.join(counts)}."
+    counts = [edits_of(crate, known, came) for crate in sorted(crates)]
+    proves, refused = (sum(each) for each in list(zip(*counts))[1:])
+    return (f"{head} [edit_outcomes.txt](edit_outcomes.txt) has what came of each without its "
+            f"clause: {proves} prove then, {refused} are refused still.")
 
 
 MAKERS = {

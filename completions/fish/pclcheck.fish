@@ -12,7 +12,7 @@ function __pclcheck_command
             continue
         end
         switch "$found $word"
-            case ' check' ' survey' ' list' ' pages' ' picture' ' pdf' ' notes' ' plain' ' pin' \
+            case ' check' ' survey' ' compare' ' list' ' pages' ' picture' ' pdf' ' notes' ' plain' ' pin' \
                 ' explain' ' profile' ' help' 'profile list' 'profile new' 'profile lint' \
                 'profile show' 'profile sheet' 'profile from-pjl' 'profile help' 'help profile'
                 set found (string trim -- "$found $word")
@@ -89,6 +89,8 @@ for place in '' help
         -d 'Checks jobs for a fleet of printers, and writes a line for each: PASS or FAIL'
     complete -c pclcheck -n "__pclcheck_at '$place'" -a survey \
         -d 'Tells all that is refused of jobs, each kind of command once, and gives no verdict'
+    complete -c pclcheck -n "__pclcheck_at '$place'" -a compare \
+        -d 'Tells whether two jobs print the same, or where they first differ'
     complete -c pclcheck -n "__pclcheck_at '$place'" -a list \
         -d 'Lists the items of a job: each command, control code and byte of text'
     complete -c pclcheck -n "__pclcheck_at '$place'" -a pages \
@@ -153,6 +155,14 @@ complete -c pclcheck -n __pclcheck_at_profile -a '(__pclcheck_samples)' -d sampl
 
 complete -c pclcheck -n '__pclcheck_at survey' -l format -x -a 'line words json' \
     -d 'Lines for people, or with json objects; line and words are the same'
+
+complete -c pclcheck -n '__pclcheck_at compare' -a '(__pclcheck_samples)' -d sample
+complete -c pclcheck -n '__pclcheck_at compare' -s p -l printer -x -a '(__pclcheck_profiles)' \
+    -d 'A printer, behind those of PROFILE. May come often'
+complete -c pclcheck -n '__pclcheck_at compare' -s f -l fleet -r \
+    -d 'A text with a profile a line; as -p, and behind those of -p'
+complete -c pclcheck -n '__pclcheck_at compare' -l format -x -a 'line words json' \
+    -d 'A line, a sentence or an object of JSON'
 
 complete -c pclcheck -n '__pclcheck_at pages' -a '(__pclcheck_samples)' -d sample
 

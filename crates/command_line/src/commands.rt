@@ -1,6 +1,7 @@
 //! The commands by their rows, and the command line that they make up.
 
 use crate::check_words::{CHECK, EXPLANATION};
+use crate::compare_words::COMPARE;
 use crate::form_words::FORMAT;
 use crate::pdf_words::PDF;
 use crate::picture_words::PICTURE;
@@ -42,6 +43,7 @@ Exit status:
 const PROGRAM_SHORT_HELP: &str = "Usage: pclcheck <COMMAND>
   check    the verdict on jobs for printers
   survey   all that is refused of jobs, without a verdict
+  compare  whether two jobs print the same
   list     each command of a job
   pages    each mark of a job on a printer
   picture  a page of a job, drawn; pdf writes all as a document
@@ -50,7 +52,6 @@ const PROGRAM_SHORT_HELP: &str = "Usage: pclcheck <COMMAND>
   pin      a job that leaves nothing to the panel
   explain  what a finding means, and what to change
   profile  profiles: list, new, lint, show, sheet, from-pjl
-
 'pclcheck COMMAND -h' tells how a command is used, 'pclcheck --help' all.";
 
 /// The program itself.
@@ -85,6 +86,7 @@ pub(crate) enum CommandName {
     Program,
     Check,
     Survey,
+    Compare,
     List,
     Pages,
     Picture,
@@ -106,6 +108,7 @@ pub(crate) enum CommandName {
 const BELOW_PROGRAM: &[CommandName] = &[
     CommandName::Check,
     CommandName::Survey,
+    CommandName::Compare,
     CommandName::List,
     CommandName::Pages,
     CommandName::Picture,
@@ -134,6 +137,7 @@ impl CommandName {
             CommandName::Program => PROGRAM,
             CommandName::Check => CHECK,
             CommandName::Survey => SURVEY,
+            CommandName::Compare => COMPARE,
             CommandName::List => LIST,
             CommandName::Pages => PAGES,
             CommandName::Picture => PICTURE,

@@ -4,6 +4,7 @@
 mod check_words;
 mod code_words;
 mod commands;
+mod compare_words;
 mod form_words;
 mod many_words;
 mod panel_words;

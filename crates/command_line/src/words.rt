@@ -6,6 +6,7 @@ ghost use Rattle.requests.specs.Words.{KeepsWhatItReads, NamesSome};
 use crate::check_words::check_request;
 use crate::code_words::code_asked;
 use crate::commands::{CommandName, command, command_asked};
+use crate::compare_words::compare_request;
 use crate::form_words::form_asked;
 use crate::panel_words::ChoiceFault;
 use crate::pdf_words::pdf_request;
@@ -87,6 +88,7 @@ fn form_of_answer(usual: Form, request: &Request<'_>) -> Form {
     match request {
         Request::CheckMany(many) => many.form,
         Request::Survey { form, .. } => *form,
+        Request::Compare(words) => words.form,
         _ => usual,
     }
 }
@@ -209,6 +211,9 @@ fn request_of<'a>(
     }
     if let Some(found) = matches.subcommand_matches("survey") {
         return Ok(survey_request(alloc, usual, found)?);
+    }
+    if let Some(found) = matches.subcommand_matches("compare") {
+        return Ok(compare_request(alloc, usual, found)?);
     }
     if let Some(found) = matches.subcommand_matches("pin") {
         return pin_request(alloc, found);

@@ -14,7 +14,7 @@ use Rattle.many_requests.specs.Checks.{LeavesAsked, UsesAll}
 use Rattle.many_requests.specs.Inputs.{reads_input_again}
 
 -- the texts of words, of which none was asked for before, and then jobs
-uses_all : (words texts unasked named : List (List ℕ)) (failed : Bool) (jobs : List JobRead) (used between used' : List FileUse)
+pub uses_all : (words texts unasked named : List (List ℕ)) (failed : Bool) (jobs : List JobRead) (used between used' : List FileUse)
     → unasked ≡ [] → AsksInOrder words unasked named → between ≡ used ++ TextsAt named texts failed ∷ []
     → used' ≡ between ++ map read_of_job jobs → UsesAll words texts failed jobs used used'
 uses_all words texts unasked named failed jobs used between used' none order told read = (

@@ -1,5 +1,6 @@
 mod AskedLeft
 mod Asking
+mod ComparisonLeft
 mod Contained
 mod Fleets
 mod NameFacts

@@ -1,4 +1,5 @@
 pub mod Checks
+pub mod Comparisons
 pub mod Inputs
 pub mod Lists
 pub mod Names

@@ -122,7 +122,7 @@ fn check_all<'r, R: Files + Input + AllocGlobal, O: Outlet, E: Outlet>(
 }
 
 /// The words that fleets name, one fleet behind another.
-fn read_fleets<T: ProfileTexts, E: Outlet>(
+pub(crate) fn read_fleets<T: ProfileTexts, E: Outlet>(
     alloc: Global,
     texts: &mut T,
     paths: &[&str],
@@ -149,7 +149,7 @@ fn read_fleets<T: ProfileTexts, E: Outlet>(
 }
 
 /// The words of printers, and behind them those of fleets.
-fn all_printers<'w>(
+pub(crate) fn all_printers<'w>(
     alloc: Global,
     printers: &[&'w str],
     fleets: &'w [String],

@@ -15,6 +15,7 @@ use Rattle.profile_commands.specs.ProfileNew.{LeavesProfile}
 use Rattle.named_inputs.specs.Texts.{text_named}
 use Rattle.requests.specs.declared.status.Status.{Status}
 use Rattle.many_requests.specs.Checks.{LeavesChecks, asking}
+use Rattle.many_requests.specs.Comparisons.{LeavesComparison}
 use Rattle.file_requests.specs.JobRequests.{LeavesCheck, LeavesNotesFor, LeavesPagesFor, LeavesPictureFor, LeavesPin}
 use Rattle.file_requests.specs.JobRequests.{LeavesPdfAt, LeavesPlain, LeavesRendered, LeavesSurveyOf}
 use Rattle.file_requests.specs.ProfileRequests.{LeavesAnsweredFor, LeavesLintFor, LeavesSheetFor, LeavesShownFor}
@@ -39,6 +40,8 @@ Fulfils texts (requests.CheckMany words) status used used' out out' err err' =
     LeavesChecks (asking texts words) status used used' out out' err err'
 Fulfils texts (requests.Survey jobs form) status used used' out out' err err' =
     LeavesSurveyOf (map (λ job. job.now) jobs.items) form status used used' out out' err err'
+Fulfils texts (requests.Compare words) status used used' out out' err err' =
+    LeavesComparison words status used used' out out' err err'
 Fulfils texts (requests.List job) status used used' out out' err err' =
     LeavesRendered job.now list_rendering status used used' out out' × (err' ≡ err)
 Fulfils texts (requests.Pages job profile) status used used' out out' err err' =

@@ -5,7 +5,7 @@ ghost use Rattle.pclcheck.specs.Requests.{Fulfils};
 
 use file_requests::job_texts::{check, list, notes, pages, pdf, picture, pin, plain, survey_files};
 use file_requests::profiles::{from_pjl, lint, sheet, show};
-use many_requests::check_asked;
+use many_requests::{check_asked, compare_asked};
 use meanings::EXPLANATIONS;
 use meanings::explain::explain;
 use pdf_command::PdfAsked;
@@ -40,6 +40,7 @@ pub fn fulfil<R: Files + Input + Print + AllocGlobal, O: Outlet, E: Outlet>(
         Request::Survey { jobs, form } => {
             survey_files(rt, jobs.as_slice(), *form, used, stdout, stderr)
         }
+        Request::Compare(words) => compare_asked(rt, words, used, stdout, stderr),
         Request::List { job } => list(rt, job, used, stdout),
         Request::Pages { job, profile } => pages(rt, job, profile, used, stdout),
         Request::Picture {

@@ -3,7 +3,7 @@
 //! No text means that there is no such line, or no memory for its sentence.
 
 use job_reports::{push_named_first, push_unread};
-use requests::{ManyWords, Request};
+use requests::{CompareWords, ManyWords, Request};
 use std::alloc::Global;
 
 /// What a line is about.
@@ -58,6 +58,7 @@ pub fn sentence_of_line(alloc: Global, request: &Request<'_>, line: &[u8]) -> Op
         Request::Survey { jobs, .. } => {
             first_of(alloc, jobs.as_slice(), Subject::UnreadJob, line)
         }
+        Request::Compare(words) => of_comparison(alloc, words, line),
         Request::ProfileLint { profiles } => {
             first_of(alloc, profiles.as_slice(), Subject::UnreadProfile, line)
         }
@@ -82,6 +83,19 @@ fn of_check(alloc: Global, many: &ManyWords<'_>, line: &[u8]) -> Option<Vec<u8>>
         return Some(text);
     }
     sentence(alloc, many.names_from?, Subject::UnreadNames, line)
+}
+
+/// The sentence of a line on the fleets or the jobs of a comparison.
+fn of_comparison(alloc: Global, words: &CompareWords<'_>, line: &[u8]) -> Option<Vec<u8>> {
+    let fleets = words.fleets.as_slice();
+    if let Some(text) = first_of(alloc, fleets, Subject::UnreadFleet, line) {
+        return Some(text);
+    }
+    if let Some(text) = first_of(alloc, fleets, Subject::RefusedFleet, line) {
+        return Some(text);
+    }
+    let jobs = [words.old_job, words.new_job];
+    first_of(alloc, &jobs, Subject::UnreadJob, line)
 }
 
 /// The sentence of a line on an answer, or on the profile that it is put into.

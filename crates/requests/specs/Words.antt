@@ -1,14 +1,15 @@
 -- What each request keeps to.
-use Rattle.std.specs.Prelude.{◌≢◌, [], ⊤}
+use Rattle.std.specs.Prelude.{◌≢◌, [], ◌++◌, ⊤}
 use Rattle.requests.specs.declared.request.Request.{Request}
-use Rattle.requests.specs.declared.request.Request.TheVariants.{Check, CheckMany, Pdf, Plain, Pin}
+use Rattle.requests.specs.declared.request.Request.TheVariants.{Check, CheckMany, Compare, Pdf, Plain, Pin}
 use Rattle.requests.specs.declared.request.Request.TheVariants.{ProfileSheet}
 use Rattle.requests.specs.ManyWords.{NamesPrinter}
 
--- a check names one printer at least, or a text that does
+-- a check and a comparison name one printer at least, or a text that does
 abbrev pub NamesSome : Request → Type 0
 NamesSome (Check job profiles) = profiles.items ≢ []
 NamesSome (CheckMany many) = NamesPrinter many
+NamesSome (Compare words) = words.printers.items ++ words.fleets.items ≢ []
 NamesSome _ = ⊤
 
 -- a text or a document of a job, and a sheet, go to no path that is read

@@ -2,6 +2,7 @@
 #![tactic(auto)]
 
 mod choices;
+mod compare_words;
 mod many_words;
 mod new_profile;
 mod request;
@@ -9,6 +10,7 @@ mod selection;
 mod status;
 
 pub use choices::{Choice, PanelSetting};
+pub use compare_words::CompareWords;
 pub use many_words::{Form, ManyWords};
 pub use new_profile::NewProfile;
 pub use request::Request;

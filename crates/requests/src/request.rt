@@ -1,6 +1,7 @@
 //! What is asked for.
 
 use crate::choices::Choice;
+use crate::compare_words::CompareWords;
 use crate::many_words::{Form, ManyWords};
 use crate::new_profile::NewProfile;
 use crate::selection::Selection;
@@ -24,6 +25,8 @@ pub enum Request<'a> {
         jobs: Vec<&'a str>,
         form: Form,
     },
+    /// Whether two jobs print the same.
+    Compare(CompareWords<'a>),
     /// The pages of the job at a path, on the printer that a word names.
     Pages {
         job: &'a str,

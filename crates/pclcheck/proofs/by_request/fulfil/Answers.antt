@@ -18,6 +18,9 @@ returns-in-Check g c =
 pub returns-in-CheckMany : goal.returns-in-CheckMany
 returns-in-CheckMany g c = asked _ _ _ _ _ _ _ _ _ _ c.in-CheckMany.is c.check_asked.ensures
 
+pub returns-in-Compare : goal.returns-in-Compare
+returns-in-Compare g c = asked _ _ _ _ _ _ _ _ _ _ c.in-Compare.is c.compare_asked.ensures
+
 pub returns-in-List : goal.returns-in-List
 returns-in-List g c = asked _ _ _ _ _ _ _ _ _ _ c.in-List.is (c.list.ensures, refl)
 

@@ -1,0 +1,26 @@
+use Rattle.std.proofs.Common.{IsFalse, inl, inr, map, refl, subst, sym}
+use Rattle.compare_command.specs.Compare.{LeavesFound, asked_for}
+use Rattle.compare_command.proofs.command.compare.Goals as goal
+
+pub compare_on_printers-requires-clause-stderr : goal.compare_on_printers-requires-clause-stderr
+compare_on_printers-requires-clause-stderr g c =
+    subst (λ stderr. IsFalse (g.E.Outlet.state stderr).failed) (sym c.in-Ok.ensures.quiet) c.requires.stderr
+
+pub returns-in-Ok-clause-left : goal.returns-in-Ok-clause-left
+returns-in-Ok-clause-left g c =
+    let fleet = c.in-Ok.printers.fleet.items in
+    let names = map (λ name. name.items) c.in-Ok.printers.names.items in
+    inl (
+      fleet,
+      names,
+      c.in-Ok.ensures.printers,
+      subst
+          (λ stderr. LeavesFound (asked_for c.args.asked.now) fleet names (g.J.Jobs.start c.args.jobs.now) c.compare_on_printers.result
+          (g.J.Jobs.ended c.args.jobs.now) (g.J.Jobs.ended c.compare_on_printers.new.jobs) (g.O.Outlet.state c.args.stdout.now)
+          (g.O.Outlet.state c.compare_on_printers.new.stdout) (g.E.Outlet.state stderr)
+          (g.E.Outlet.state c.compare_on_printers.new.stderr))
+          c.in-Ok.ensures.quiet c.compare_on_printers.ensures,
+    )
+
+pub returns-in-Err-clause-left : goal.returns-in-Err-clause-left
+returns-in-Err-clause-left g c = inr (c.in-Err.ensures.refused, refl, refl)

@@ -1,0 +1,4 @@
+pub mod Lines
+pub mod Sentences
+pub mod Objects
+pub mod Compare

@@ -1,0 +1,169 @@
+//! The sentence that tells what comes of two jobs.
+
+ghost use Rattle.std.specs.Prelude.{◌≡◌, ◌++◌, OnOk};
+ghost use Rattle.compare_command.specs.Sentences.{
+  change_phrase,
+  counts_part,
+  difference_phrase,
+  difference_sentence,
+  new_phrase,
+  old_phrase,
+  places_phrase,
+  printer_phrase,
+  same_sentence,
+  spot_phrase,
+  what_phrase,
+};
+
+use crate::lines::push_counts;
+use comparison::{Change, Difference};
+use job_reports::push_named_first;
+use line_words::push_named;
+use shown_bytes::push_shown_text;
+use sinks::Counts;
+use std::alloc::{AllocError, Allocator};
+
+/// Appends the sentence on jobs of these names that print the same.
+#[tactic(auto, unfolding(crate::specs::Sentences::same_sentence))]
+pub(crate) fn push_same_sentence<A: Allocator + Copy>(
+    alloc: A,
+    text: &mut Vec<u8, A>,
+    old_name: &str,
+    new_name: &str,
+    counts: Counts,
+) -> Result<(), AllocError>
+    ensures { OnOk result (text.new.items ≡ text.old.items
+        ++ same_sentence old_name.now new_name.now counts) }
+{
+    push_named_first(alloc, text, new_name.as_bytes())?;
+    text.extend_from_slice(b"prints the same as ")?;
+    push_shown_text(text, old_name.as_bytes())?;
+    push_counts_part(text, counts)?;
+    Ok(())
+}
+
+#[tactic(auto, unfolding(crate::specs::Sentences::counts_part))]
+fn push_counts_part<A: Allocator>(text: &mut Vec<u8, A>, counts: Counts) -> Result<(), AllocError>
+    ensures { OnOk result (text.new.items ≡ text.old.items ++ counts_part counts) }
+{
+    text.extend_from_slice(b" (")?;
+    push_counts(text, counts)?;
+    text.extend_from_slice(b")\n")?;
+    Ok(())
+}
+
+/// Appends the sentence on jobs of these names that differ first so on the printer of this one.
+#[tactic(auto, unfolding(crate::specs::Sentences::difference_sentence))]
+pub(crate) fn push_difference_sentence<A: Allocator + Copy>(
+    alloc: A,
+    text: &mut Vec<u8, A>,
+    old_name: &str,
+    new_name: &str,
+    printer: &[u8],
+    difference: Difference,
+) -> Result<(), AllocError>
+    ensures { OnOk result (text.new.items ≡ text.old.items
+        ++ difference_sentence old_name.now new_name.now printer.now difference) }
+{
+    push_named_first(alloc, text, new_name.as_bytes())?;
+    text.extend_from_slice(b"differs from ")?;
+    push_shown_text(text, old_name.as_bytes())?;
+    push_difference(text, printer, difference)?;
+    Ok(())
+}
+
+#[tactic(auto, unfolding(crate::specs::Sentences::difference_phrase))]
+fn push_difference<A: Allocator>(
+    text: &mut Vec<u8, A>,
+    printer: &[u8],
+    difference: Difference,
+) -> Result<(), AllocError>
+    ensures { OnOk result (text.new.items ≡ text.old.items
+        ++ difference_phrase printer.now difference) }
+{
+    push_spot(text, difference)?;
+    push_what(text, printer, difference)
+}
+
+#[tactic(auto, unfolding(crate::specs::Sentences::spot_phrase))]
+fn push_spot<A: Allocator>(text: &mut Vec<u8, A>, difference: Difference) -> Result<(), AllocError>
+    ensures { OnOk result (text.new.items ≡ text.old.items ++ spot_phrase difference) }
+{
+    push_named(text, b" on page ", difference.page)?;
+    push_named(text, b" at mark ", difference.mark)
+}
+
+#[tactic(auto, unfolding(crate::specs::Sentences::what_phrase))]
+fn push_what<A: Allocator>(
+    text: &mut Vec<u8, A>,
+    printer: &[u8],
+    difference: Difference,
+) -> Result<(), AllocError>
+    ensures { OnOk result (text.new.items ≡ text.old.items
+        ++ what_phrase printer.now difference) }
+{
+    push_printer(text, printer, difference.change)?;
+    push_places(text, difference)
+}
+
+#[tactic(auto, unfolding(crate::specs::Sentences::printer_phrase))]
+fn push_printer<A: Allocator>(
+    text: &mut Vec<u8, A>,
+    printer: &[u8],
+    change: Change,
+) -> Result<(), AllocError>
+    ensures { OnOk result (text.new.items ≡ text.old.items
+        ++ printer_phrase printer.now change) }
+{
+    text.extend_from_slice(b" for ")?;
+    text.extend_from_slice(printer)?;
+    text.extend_from_slice(b": ")?;
+    text.extend_from_slice(change_phrase(change))?;
+    Ok(())
+}
+
+/// What differs.
+fn change_phrase(change: Change) -> &'static [u8]
+    ensures { result.now ≡ change_phrase change }
+{
+    match change {
+        Change::Moved => b"the mark is moved",
+        Change::Changed => b"the mark is another one",
+        Change::OnlyInOld => b"the mark is missing",
+        Change::OnlyInNew => b"the mark is new",
+        Change::PageEnds => b"the page ends otherwise",
+    }
+}
+
+#[tactic(auto, unfolding(crate::specs::Sentences::places_phrase))]
+fn push_places<A: Allocator>(
+    text: &mut Vec<u8, A>,
+    difference: Difference,
+) -> Result<(), AllocError>
+    ensures { OnOk result (text.new.items ≡ text.old.items ++ places_phrase difference) }
+{
+    push_old_place(text, difference)?;
+    push_new_place(text, difference)
+}
+
+#[tactic(auto, unfolding(crate::specs::Sentences::old_phrase))]
+fn push_old_place<A: Allocator>(
+    text: &mut Vec<u8, A>,
+    difference: Difference,
+) -> Result<(), AllocError>
+    ensures { OnOk result (text.new.items ≡ text.old.items ++ old_phrase difference) }
+{
+    push_named(text, b" (byte ", difference.old_place)?;
+    text.extend_from_slice(b" of it")
+}
+
+#[tactic(auto, unfolding(crate::specs::Sentences::new_phrase))]
+fn push_new_place<A: Allocator>(
+    text: &mut Vec<u8, A>,
+    difference: Difference,
+) -> Result<(), AllocError>
+    ensures { OnOk result (text.new.items ≡ text.old.items ++ new_phrase difference) }
+{
+    push_named(text, b", byte ", difference.new_place)?;
+    text.extend_from_slice(b" here)\n")
+}

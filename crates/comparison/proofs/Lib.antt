@@ -1,0 +1,9 @@
+pub mod Carried
+pub mod Comparisons
+pub mod Ends
+pub mod Following
+pub mod Given
+pub mod Running
+pub mod Sameness
+pub mod SoFar
+pub mod Steps

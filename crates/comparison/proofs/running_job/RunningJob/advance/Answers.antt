@@ -1,0 +1,83 @@
+use Rattle.std.proofs.Common.{ap, subst, sym, ◌∙◌}
+use Rattle.sinks.specs.Recorder.{Recorded}
+use Rattle.comparison.specs.Running.{HasRun, RunState, TakesWork, is_open}
+use Rattle.comparison.proofs.Running.{advanced, runs_after, stepped_run, waits_now, work_taken}
+use Rattle.comparison.proofs.running_job.RunningJob.advance.Goals as goal
+
+pub step-requires-clause-running : goal.step-requires-clause-running
+step-requires-clause-running g c =
+    (c.self.invariant (ap (λ (s : RunState). is_open s.progress) c.self.view_is ∙ c.requires)).0
+
+pub step-requires-clause-mode : goal.step-requires-clause-mode
+step-requires-clause-mode g c =
+    (c.self.invariant (ap (λ (s : RunState). is_open s.progress) c.self.view_is ∙ c.requires)).1
+
+pub step-requires-clause-empty : goal.step-requires-clause-empty
+step-requires-clause-empty g c = ap (λ (r : Recorded). r.events) c.clear.ensures
+
+pub invariant_of-self : goal.invariant_of-self
+invariant_of-self g c = λ running.
+    let l = c.self.inside in
+    let ready = c.self.invariant (ap (λ (s : RunState). is_open s.progress) c.self.view_is ∙ c.requires) in
+    let stands =
+    runs_after c.step-stepped.result l.lexer c.step-stepped.new.lexer c.step-stepped.new.machine c.step-stepped.new.recorder.events
+    (sym (ap is_open c.progress_after.ensures) ∙ running) c.step-stepped.ensures.leaves in
+    (stands.0, stands.1, c.step-stepped.ensures.place ∙ ready.2, ready.3, ready.4)
+
+pub returns-clause-came : goal.returns-clause-came
+returns-clause-came g c = λ printer panel first now made h.
+    let l = c.self.inside in
+    let fields : RunState = record {
+      lexer = l.lexer;
+      machine = l.machine;
+      events = l.recorder.events;
+      place = l.place;
+      total = l.total;
+      reads = l.reads;
+      number = l.number;
+      progress = l.progress;
+    } in
+    advanced fields c.step-stepped.new.lexer c.step-stepped.new.machine c.step-stepped.new.recorder.events
+    (ap (λ (s : RunState). is_open s.progress) c.self.view_is ∙ c.requires) c.step-stepped.ensures.ended printer panel first now made
+    (subst (λ (s : RunState). HasRun printer panel first now made s) (sym c.self.view_is) h) c.step-stepped.result c.place_after.result
+    c.progress_after.result c.place_after.ensures c.progress_after.ensures c.step-stepped.ensures.came c.step-stepped.ensures.leaves
+
+pub returns-clause-waits : goal.returns-clause-waits
+returns-clause-waits g c = λ more.
+    let l = c.self.inside in
+    let fields : RunState = record {
+      lexer = l.lexer;
+      machine = l.machine;
+      events = l.recorder.events;
+      place = l.place;
+      total = l.total;
+      reads = l.reads;
+      number = l.number;
+      progress = l.progress;
+    } in
+    waits_now fields c.step-stepped.new.lexer c.step-stepped.new.machine c.step-stepped.new.recorder.events c.place_after.result
+    c.progress_after.result c.step-stepped.result c.progress_after.ensures c.step-stepped.ensures.leaves more
+
+pub returns-clause-less : goal.returns-clause-less
+returns-clause-less g c =
+    let l = c.self.inside in
+    let fields : RunState = record {
+      lexer = l.lexer;
+      machine = l.machine;
+      events = l.recorder.events;
+      place = l.place;
+      total = l.total;
+      reads = l.reads;
+      number = l.number;
+      progress = l.progress;
+    } in
+    subst
+    (λ (s : RunState). TakesWork c.step-stepped.result s (stepped_run fields c.step-stepped.new.lexer c.step-stepped.new.machine
+    c.step-stepped.new.recorder.events c.place_after.result c.progress_after.result))
+    c.self.view_is
+    (work_taken fields c.step-stepped.new.lexer c.step-stepped.new.machine c.step-stepped.new.recorder.events c.place_after.result
+    c.progress_after.result (ap (λ (s : RunState). is_open s.progress) c.self.view_is ∙ c.requires) c.step-stepped.result
+    c.progress_after.ensures c.step-stepped.ensures.leaves)
+
+pub returns-clause-number : goal.returns-clause-number
+returns-clause-number g c = ap (λ (s : RunState). s.number) c.self.view_is

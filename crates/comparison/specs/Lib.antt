@@ -1,0 +1,6 @@
+pub mod Changes
+pub mod Comparison
+pub mod Running
+pub mod Comparing
+pub mod Laws
+pub mod Nearness

@@ -1,0 +1,296 @@
+//! Compares two jobs, which are read side by side.
+
+ghost use Rattle.std.specs.Prelude.{◌≡◌, ◌<◌, [], IfErr, IfOk, IsFalse, OnOk, false, map, true};
+ghost use Rattle.device_profile.specs.Printer.{first_panel};
+ghost use Rattle.comparison.specs.Comparison.{IsComparison, made_at};
+ghost use Rattle.comparison.specs.Comparing.{EndsCompare, EndsRight, EventCompares, EventsCompare};
+ghost use Rattle.comparison.specs.Comparing.{FollowsOn, ItemCompares, NewEndsRight, StepCompares};
+ghost use Rattle.comparison.specs.Comparing.{is_unread, still_made};
+ghost use Rattle.comparison.specs.Running.{IsErrorOfJob, RunsOut, failure_of, is_open, work};
+ghost use Rattle.sinks.specs.Owned.{event_of};
+ghost use Rattle.streams.specs.Pieces.{ByReads};
+
+use crate::difference::{Comparison, Difference, Spot};
+use crate::follower::Follower;
+use crate::running_job::RunningJob;
+use device_profile::Profile;
+use pcl_items::Place;
+use pcl_lexer::one_reading;
+use sinks::OwnedEvent;
+use std::alloc::Allocator;
+use streams::{Error, Source};
+use verdict::Failure;
+
+/// One of two jobs.
+#[derive(Clone, Copy, Debug, PartialEq, Eq)]
+pub enum Which {
+    Old,
+    New,
+}
+
+/// Why there is no comparison, and of which job.
+#[derive(Clone, Copy, Debug, PartialEq, Eq)]
+pub struct Unread {
+    pub which: Which,
+    /// `Read` where a read of the job failed, `Turns` after 2^40 reads without an end, or `Memory`.
+    pub error: Error,
+}
+
+/// What comes of two jobs on the printer of this number, from the first panel that its profile
+/// lists: whether they print the same, or where they first differ. A failure of the job OLD comes
+/// before one of the job NEW, and both before a difference.
+///
+/// Both are read side by side, item by item, so that memory does not grow with them.
+pub fn compare_jobs<S: Source, T: Source, A: Allocator + Copy, P: Allocator>(
+    alloc: A,
+    old_job: &mut S,
+    new_job: &mut T,
+    profile: &Profile<P>,
+    number: u64,
+) -> Result<Comparison, Unread>
+    requires old_job { IsFalse (S.state old_job.old).failed }
+    requires new_job { IsFalse (T.state new_job.old).failed }
+    ensures compared { IfOk result (λ comparison.
+        ByReads (S.state old_job.old) (S.state old_job.new) (λ one.
+        ByReads (T.state new_job.old) (T.state new_job.new) (λ other.
+        IsComparison number profile.now (first_panel profile.now) one other comparison))) }
+    ensures old_read { (S.state old_job.new).failed ≡ is_unread Which.Old result }
+    ensures new_read { (T.state new_job.new).failed ≡ is_unread Which.New result }
+    ensures err { IfErr result (λ unread. IsErrorOfJob unread.error) }
+{
+    one_reading();
+    let panel = profile.first_panel();
+    let mut first = RunningJob::new(alloc, profile, &panel, number);
+    let mut follower = Follower::new(alloc, profile, &panel, number);
+    let found = compare_events(old_job, &mut first, new_job, &mut follower)?;
+    let mut second = follower.into_job();
+    finish(old_job, &mut first, new_job, &mut second, found)
+}
+
+/// Carries out the rest of two jobs that were compared up to what was found, which holds where
+/// neither fails.
+fn finish<S: Source, T: Source, A: Allocator + Copy, P: Allocator>(
+    old_job: &mut S,
+    first: &mut RunningJob<'_, A, P>,
+    new_job: &mut T,
+    second: &mut RunningJob<'_, A, P>,
+    found: Comparison,
+) -> Result<Comparison, Unread>
+    requires old_job { IsFalse (S.state old_job.old).failed }
+    requires new_job { IsFalse (T.state new_job.old).failed }
+    ensures compared { IfOk result (λ comparison. EndsRight
+        (S.state old_job.old) (S.state old_job.new) (T.state new_job.old) (T.state new_job.new)
+        first.old second.old found comparison) }
+    ensures old_read { (S.state old_job.new).failed ≡ is_unread Which.Old result }
+    ensures new_read { (T.state new_job.new).failed ≡ is_unread Which.New result }
+    ensures err { IfErr result (λ unread. IsErrorOfJob unread.error) }
+{
+    match failure_of(Which::Old, old_job, first) {
+        Ok(Some(failure)) => Ok(Comparison::OldFails(failure)),
+        Ok(None) => finish_new(new_job, second, found),
+        Err(unread) => Err(unread),
+    }
+}
+
+/// The same of NEW, where OLD does not fail.
+fn finish_new<T: Source, A: Allocator + Copy, P: Allocator>(
+    new_job: &mut T,
+    second: &mut RunningJob<'_, A, P>,
+    found: Comparison,
+) -> Result<Comparison, Unread>
+    requires { IsFalse (T.state new_job.old).failed }
+    ensures compared { IfOk result (λ comparison. NewEndsRight
+        (T.state new_job.old) (T.state new_job.new) second.old found comparison) }
+    ensures read { (T.state new_job.new).failed ≡ is_unread Which.New result }
+    ensures err { IfErr result (λ unread. (unread.which ≡ Which.New)
+        × IsErrorOfJob unread.error) }
+{
+    match failure_of(Which::New, new_job, second) {
+        Ok(Some(failure)) => Ok(Comparison::NewFails(failure)),
+        Ok(None) => Ok(found),
+        Err(unread) => Err(unread),
+    }
+}
+
+/// Carries out the rest of a job, and answers why it fails, if it does.
+fn failure_of<S: Source, A: Allocator + Copy, P: Allocator>(
+    which: Which,
+    source: &mut S,
+    job: &mut RunningJob<'_, A, P>,
+) -> Result<Option<Failure>, Unread>
+    requires { IsFalse (S.state source.old).failed }
+    ensures failure { IfOk result (λ failure. failure ≡ failure_of job.new.progress) }
+    ensures run { OnOk result (RunsOut (S.state source.old) (S.state source.new)
+        job.old job.new) }
+    ensures over { OnOk result (is_open job.new.progress ≡ false) }
+    ensures number { job.new.number ≡ job.old.number }
+    ensures read { (S.state source.new).failed ≡ is_unread which result }
+    ensures err { IfErr result (λ unread. (unread.which ≡ which) × IsErrorOfJob unread.error) }
+{
+    match job.run_out(source) {
+        Ok(()) => Ok(job.failure()),
+        Err(error) => Err(Unread { which, error }),
+    }
+}
+
+/// Compares what two jobs make, up to the first difference or to both ends. What is found holds
+/// where neither fails.
+fn compare_events<S: Source, T: Source, A: Allocator + Copy, P: Allocator>(
+    old_job: &mut S,
+    first: &mut RunningJob<'_, A, P>,
+    new_job: &mut T,
+    second: &mut Follower<'_, A, P>,
+) -> Result<Comparison, Unread>
+    requires old_job { IsFalse (S.state old_job.old).failed }
+    requires new_job { IsFalse (T.state new_job.old).failed }
+    ensures compared { IfOk result (λ found. EventsCompare
+        (S.state old_job.old) (S.state old_job.new) (T.state new_job.old) (T.state new_job.new)
+        first.old first.new second.old second.new found) }
+    ensures old_number { first.new.number ≡ first.old.number }
+    ensures new_number { second.new.run.number ≡ second.old.run.number }
+    ensures old_read { (S.state old_job.new).failed ≡ is_unread Which.Old result }
+    ensures new_read { (T.state new_job.new).failed ≡ is_unread Which.New result }
+    ensures err { IfErr result (λ unread. IsErrorOfJob unread.error) }
+{
+    let mut spot = Spot::start();
+    'steps: while first.is_open() {
+        let found = compare_step(old_job, first, new_job, second, &mut spot)?;
+        match found {
+            None => {}
+            Some(difference) => return Ok(Comparison::Differs(difference)),
+        }
+    }
+    compare_ends(first, new_job, second, spot)
+}
+
+/// Takes the next step of OLD, and compares what it makes with what comes of NEW.
+fn compare_step<S: Source, T: Source, A: Allocator + Copy, P: Allocator>(
+    old_job: &mut S,
+    first: &mut RunningJob<'_, A, P>,
+    new_job: &mut T,
+    second: &mut Follower<'_, A, P>,
+    spot: &mut Spot,
+) -> Result<Option<Difference>, Unread>
+    requires old_job { IsFalse (S.state old_job.old).failed }
+    requires new_job { IsFalse (T.state new_job.old).failed }
+    requires running { is_open first.old.progress ≡ true }
+    ensures compared { IfOk result (λ found. StepCompares
+        (S.state old_job.old) (S.state old_job.new) (T.state new_job.old) (T.state new_job.new)
+        first.old first.new spot.old spot.new second.old second.new found) }
+    ensures less { OnOk result (work first.new < work first.old) }
+    ensures old_number { first.new.number ≡ first.old.number }
+    ensures new_number { second.new.run.number ≡ second.old.run.number }
+    ensures old_read { (S.state old_job.new).failed ≡ is_unread Which.Old result }
+    ensures new_read { (T.state new_job.new).failed ≡ is_unread Which.New result }
+    ensures err { IfErr result (λ unread. IsErrorOfJob unread.error) }
+{
+    match first.step(old_job) {
+        Ok(()) => compare_made(first.events(), first.place(), new_job, second, spot),
+        Err(error) => Err(Unread {
+            which: Which::Old,
+            error,
+        }),
+    }
+}
+
+/// Compares what an item of OLD at a place made, event by event, with what comes of NEW.
+fn compare_made<T: Source, A: Allocator + Copy, P: Allocator>(
+    events: &[OwnedEvent<A>],
+    place: Place,
+    new_job: &mut T,
+    second: &mut Follower<'_, A, P>,
+    spot: &mut Spot,
+) -> Result<Option<Difference>, Unread>
+    requires { IsFalse (T.state new_job.old).failed }
+    ensures compared { IfOk result (λ found. ItemCompares
+        (T.state new_job.old) (T.state new_job.new) spot.old spot.new
+        (made_at place (map event_of events.now)) second.old second.new found) }
+    ensures number { second.new.run.number ≡ second.old.run.number }
+    ensures read { (T.state new_job.new).failed ≡ is_unread Which.New result }
+    ensures err { IfErr result (λ unread. (unread.which ≡ Which.New)
+        × IsErrorOfJob unread.error) }
+{
+    for event in events {
+        let found = compare_event(event, place, new_job, second, spot)?;
+        match found {
+            None => {}
+            Some(difference) => return Ok(Some(difference)),
+        }
+    }
+    Ok(None)
+}
+
+/// Compares an event of OLD, whose item stands at a place, with the next one that comes of NEW.
+fn compare_event<T: Source, A: Allocator + Copy, P: Allocator>(
+    event: &OwnedEvent<A>,
+    place: Place,
+    new_job: &mut T,
+    second: &mut Follower<'_, A, P>,
+    spot: &mut Spot,
+) -> Result<Option<Difference>, Unread>
+    requires { IsFalse (T.state new_job.old).failed }
+    ensures compared { IfOk result (λ found. EventCompares
+        (T.state new_job.old) (T.state new_job.new) spot.old spot.new
+        (record { place = place; event = event_of event.now }) second.old second.new found) }
+    ensures number { second.new.run.number ≡ second.old.run.number }
+    ensures read { (T.state new_job.new).failed ≡ is_unread Which.New result }
+    ensures err { IfErr result (λ unread. (unread.which ≡ Which.New)
+        × IsErrorOfJob unread.error) }
+{
+    come(new_job, second)?;
+    match second.difference(event, place, *spot) {
+        Some(difference) => Ok(Some(difference)),
+        None => {
+            spot.count(event);
+            second.pass();
+            Ok(None)
+        }
+    }
+}
+
+/// Compares the ends of two jobs, of which OLD has come to its own.
+fn compare_ends<T: Source, A: Allocator + Copy, P: Allocator>(
+    first: &RunningJob<'_, A, P>,
+    new_job: &mut T,
+    second: &mut Follower<'_, A, P>,
+    spot: Spot,
+) -> Result<Comparison, Unread>
+    requires working { IsFalse (T.state new_job.old).failed }
+    requires over { is_open first.now.progress ≡ false }
+    ensures compared { IfOk result (λ found. EndsCompare
+        (T.state new_job.old) (T.state new_job.new) first.now spot second.old second.new found) }
+    ensures number { second.new.run.number ≡ second.old.run.number }
+    ensures read { (T.state new_job.new).failed ≡ is_unread Which.New result }
+    ensures err { IfErr result (λ unread. (unread.which ≡ Which.New)
+        × IsErrorOfJob unread.error) }
+{
+    come(new_job, second)?;
+    match second.further(first.place(), spot) {
+        Some(difference) => Ok(Comparison::Differs(difference)),
+        None => Ok(Comparison::Same(spot.counts)),
+    }
+}
+
+/// Goes on with NEW until there is an event to compare, or it is over.
+fn come<T: Source, A: Allocator + Copy, P: Allocator>(
+    new_job: &mut T,
+    second: &mut Follower<'_, A, P>,
+) -> Result<(), Unread>
+    requires { IsFalse (T.state new_job.old).failed }
+    ensures run { OnOk result (FollowsOn (T.state new_job.old) (T.state new_job.new)
+        second.old second.new) }
+    ensures came { OnOk result (still_made second.new ≡ [] →
+        is_open second.new.run.progress ≡ false) }
+    ensures number { second.new.run.number ≡ second.old.run.number }
+    ensures read { (T.state new_job.new).failed ≡ is_unread Which.New result }
+    ensures err { IfErr result (λ unread. (unread.which ≡ Which.New)
+        × IsErrorOfJob unread.error) }
+{
+    match second.come(new_job) {
+        Ok(()) => Ok(()),
+        Err(error) => Err(Unread {
+            which: Which::New,
+            error,
+        }),
+    }
+}

@@ -1,0 +1,19 @@
+//! Whether two jobs print the same on a printer, and where they first differ.
+//!
+//! Both jobs are read side by side. `specs/Comparison.antt` says what comes of two jobs,
+//! `specs/Changes.antt` what differs between two marks, and `specs/Running.antt` how far a job has
+//! come that is carried out.
+#![tactic(auto)]
+
+mod changes;
+mod compare;
+mod difference;
+mod events;
+mod follower;
+mod laws;
+mod running_job;
+mod stepping;
+
+pub use compare::{Unread, Which, compare_jobs};
+pub use difference::{Change, Comparison, Difference, Spot};
+pub use laws::{same_for_all, same_prints_same};

@@ -1,0 +1,60 @@
+-- What a comparison of two jobs leaves that is made on files.
+use Rattle.std.specs.Prelude.{◌≡◌, ◌⊎◌, ◌&&◌, ◌||◌, ℕ, Bool, IsFalse, List, [], ◌∷◌, ◌++◌, codes, flat_map, map}
+use Rattle.std.specs.Prelude.{None, false, length, nat_lt}
+use Rattle.requests.specs.declared.compare_words.CompareWords.{CompareWords}
+use Rattle.requests.specs.declared.status.Status.{Status}
+use Rattle.streams.specs.Ended.{JobRead}
+use Rattle.streams.specs.Files.{no_source}
+use Rattle.streams.specs.Outlet.{OutletState}
+use Rattle.streams.specs.Used.{FileUse, TextsAt}
+use Rattle.compare_command.specs.Compare.{Asked, LeavesCompared}
+use Rattle.job_reports.specs.Pipes.{RefusesPipe}
+use Rattle.many_jobs.specs.FleetFile.{AreFleets, FleetText, words_named}
+use Rattle.named_inputs.specs.FileJobs.{is_input}
+use Rattle.named_inputs.specs.Texts.{text_named}
+use Rattle.many_requests.specs.Checks.{LacksSome, UsesAll}
+
+abbrev pub fleet_paths : CompareWords → List (List ℕ)
+fleet_paths words = map (λ word. word.now) words.fleets.items
+
+-- what these words ask for, with these printers
+abbrev pub asked_by : CompareWords → List (List ℕ) → Asked
+asked_by words printers = record {
+  old_name = words.old_job.now;
+  new_name = words.new_job.now;
+  printers = printers;
+  form = words.form;
+}
+
+-- the printers of the words, and then those that the texts of fleets name
+abbrev pub printers_by : CompareWords → List FleetText → List (List ℕ)
+printers_by words fleets = map (λ word. word.now) words.printers.items ++ flat_map words_named fleets
+
+-- standard input would be read more than once: for several printers, or as both jobs
+abbrev pub reads_input_twice : Asked → Bool
+reads_input_twice asked =
+    (nat_lt 1 (length asked.printers) && (is_input asked.old_name || is_input asked.new_name))
+    || (is_input asked.old_name && is_input asked.new_name)
+
+abbrev pub read_for_each : List ℕ
+read_for_each = codes "compare reads both jobs once for each printer\n"
+
+-- The jobs are compared, where standard input is read once at most, on the printers of the texts in the history; or one
+-- is refused that can be read only once, nothing is written and nothing read.
+abbrev pub LeavesOnFiles : Asked → Status → List FileUse → List FileUse → OutletState → OutletState → OutletState →
+    OutletState → Type 0
+LeavesOnFiles asked status used used' out out' err err' =
+    (IsFalse (reads_input_twice asked) × (ended : List JobRead) × (texts : List (List ℕ)) × (read_failed : Bool)
+    × UsesAll asked.printers texts read_failed ended used used'
+    × LeavesCompared (map text_named asked.printers) [] texts asked (λ name. no_source) status [] ended out out' err
+    err')
+    ⊎ (RefusesPipe (asked.old_name ∷ asked.new_name ∷ []) read_for_each status err err' × (out' ≡ out) × (used' ≡ used))
+
+-- so for the printers of the words and of the fleets, whose texts are read first; or one of these cannot be had
+abbrev pub LeavesComparison : CompareWords → Status → List FileUse → List FileUse → OutletState → OutletState →
+    OutletState → OutletState → Type 0
+LeavesComparison words status used used' out out' err err' =
+    ((fleets : List FleetText) × AreFleets text_named (fleet_paths words) fleets
+    × LeavesOnFiles (asked_by words (printers_by words fleets)) status
+    (used ++ TextsAt (fleet_paths words) (map (λ fleet. fleet.text) fleets) false ∷ []) used' out out' err err')
+    ⊎ (LacksSome (fleet_paths words) None status err err' × (out' ≡ out))

@@ -1,0 +1,97 @@
+//! A comparison of two jobs by request, on files.
+
+ghost use Rattle.std.specs.Prelude.{◌≢◌, [], ◌∷◌, ◌++◌, Contains, IfNone, IfSome, IsFalse};
+ghost use Rattle.compare_command.specs.Compare.{asked_for};
+ghost use Rattle.many_requests.specs.Comparisons.{LeavesComparison, LeavesOnFiles};
+ghost use Rattle.many_requests.specs.Comparisons.{reads_input_twice};
+ghost use Rattle.named_inputs.specs.FileJobs.{is_input};
+
+use crate::many::{all_printers, read_fleets};
+use compare_command::{CompareAsked, compare};
+use job_reports::{is_pipe, refuse_pipe};
+use named_inputs::{FileJobs, FileTexts, is_input};
+use requests::{CompareWords, Status};
+use std::io::Input;
+use std::rt::Files;
+use streams::{Error, FilesUsed, Outlet};
+
+/// Why a comparison reads a job again.
+const READ_FOR_EACH: &[u8] = b"compare reads both jobs once for each printer\n";
+
+/// Compares two jobs. The fleets are read first, then the profiles, then the jobs.
+pub fn compare_asked<R: Files + Input + AllocGlobal, O: Outlet, E: Outlet>(
+    rt: &R,
+    words: &CompareWords<'_>,
+    used: &mut FilesUsed,
+    stdout: &mut O,
+    stderr: &mut E,
+) -> Status
+    requires stdout { IsFalse (O.state stdout.old).failed }
+    requires stderr { IsFalse (E.state stderr.old).failed }
+    requires some { words.now.printers.items ++ words.now.fleets.items ≢ [] }
+    ensures { LeavesComparison words.now result used.old used.new
+        (O.state stdout.old) (O.state stdout.new) (E.state stderr.old) (E.state stderr.new) }
+{
+    let alloc = rt.alloc();
+    let mut texts = FileTexts::new(rt);
+    let fleets = match read_fleets(alloc, &mut texts, words.fleets.as_slice(), stderr) {
+        Ok(fleets) => fleets,
+        Err(status) => return status,
+    };
+    texts.end(used);
+    let Ok(printers) = all_printers(alloc, words.printers.as_slice(), fleets.as_slice()) else {
+        return Status::Stopped(Error::Memory);
+    };
+    let asked = CompareAsked {
+        old_name: words.old_job,
+        new_name: words.new_job,
+        printers: printers.as_slice(),
+        form: words.form,
+    };
+    compare_on_files(rt, &asked, used, stdout, stderr)
+}
+
+/// Compares two jobs, unless one would be read again that can be read only once.
+fn compare_on_files<'r, R: Files + Input + AllocGlobal, O: Outlet, E: Outlet>(
+    rt: &'r R,
+    asked: &CompareAsked<'_, 'r>,
+    used: &mut FilesUsed,
+    stdout: &mut O,
+    stderr: &mut E,
+) -> Status
+    requires stdout { IsFalse (O.state stdout.old).failed }
+    requires stderr { IsFalse (E.state stderr.old).failed }
+    requires some { asked.now.printers.now ≢ [] }
+    ensures { LeavesOnFiles (asked_for asked.now) result used.old used.new
+        (O.state stdout.old) (O.state stdout.new) (E.state stderr.old) (E.state stderr.new) }
+{
+    if let Some(name) = gone_once_read(rt, asked) {
+        return refuse_pipe(rt.alloc(), name.as_bytes(), READ_FOR_EACH, stderr);
+    }
+    let mut jobs = FileJobs::new(rt);
+    let mut texts = FileTexts::new(rt);
+    let status = compare(rt.alloc(), &mut jobs, &mut texts, asked, stdout, stderr);
+    texts.end(used);
+    jobs.tell(used);
+    status
+}
+
+/// The job that would be read again, and whose bytes are gone once they are read.
+fn gone_once_read<'n, R: Files>(rt: &R, asked: &CompareAsked<'_, 'n>) -> Option<&'n str>
+    ensures once { IfNone result (IsFalse (reads_input_twice (asked_for asked.now))) }
+    ensures named { IfSome result (λ name. Contains
+        (asked.now.old_name.now ∷ asked.now.new_name.now ∷ []) name.now) }
+{
+    let is_old_gone = is_input(asked.old_name.as_bytes());
+    let is_new_gone = is_input(asked.new_name.as_bytes());
+    if asked.printers.len() <= 1 {
+        return (is_old_gone && is_new_gone).then_some(asked.new_name);
+    }
+    if is_old_gone || is_pipe(rt, asked.old_name.as_bytes()) {
+        return Some(asked.old_name);
+    }
+    if is_new_gone || is_pipe(rt, asked.new_name.as_bytes()) {
+        return Some(asked.new_name);
+    }
+    None
+}

@@ -1,0 +1,331 @@
+#!/usr/bin/env python3
+"""Compares what `compare` tells of pairs of jobs with a comparison of their lines of `pages`.
+
+    python3 crosscheck/compares.py PROGRAM COUNT SEED
+
+A pair is a random job and an edit of it: one of its numbers changed, two of its items swapped, one
+left out or made twice, a page more, its bytes broken, or the job as `plain` and as `pin` write it.
+What is due is found here by the lines that the program's own `pages` writes of both jobs on each
+printer, one behind another; the places of the items are those of `lexer.py` and of the machine of
+`machine.py`, whose lines have to be the same. Of `plain` of a job that fails nowhere it has to be
+SAME, and so of `pin`. Each pair is told as a line and as an object. Prints each difference and at
+last `N compared, M differ`. The exit status is 0 where M is 0, else 1.
+"""
+
+import json
+import subprocess
+import sys
+import tempfile
+from pathlib import Path
+from random import Random
+from typing import Callable, Dict, List, NamedTuple, Optional, Tuple
+
+sys.dont_write_bytecode = True
+
+import jobs                                                        # noqa: E402
+import oracle                                                      # noqa: E402
+from items import FRAME, canon                                     # noqa: E402
+from lexer import lex                                              # noqa: E402
+from machine import Machine                                        # noqa: E402
+from printer_profile import Profile                                # noqa: E402
+from state import Finding                                          # noqa: E402
+
+SECONDS = 60
+MOST_PRINTERS = 3
+# Of a line of `pages`: the words that say where a mark stands, and from which on these are edges.
+PLACES = {"glyph": 9, "rect": 3, "row": 2, "line": 2}
+
+
+class Made(NamedTuple):
+    """A line of `pages`, and the byte of the item that makes it."""
+    place: int
+    line: str
+
+
+class Run(NamedTuple):
+    """What a job makes on a printer, why it fails, and where it ends."""
+    made: List[Made]
+    failure: str
+    end: int
+
+
+class Due(NamedTuple):
+    status: int
+    line: str
+    members: Dict[str, object]
+
+
+def made_by(profile: Profile, job: bytes) -> List[int]:
+    """The place of each event of a job."""
+    lexed = lex(job)
+    machine = Machine(profile, profile.first_panel(), watched=False)
+    places: List[int] = []
+    for place, item in lexed.items + ([] if lexed.fault else [(len(job), None)]):
+        try:
+            machine.finish() if item is None else machine.step(item)
+        except Finding:
+            places += [place] * (len(machine.events) - len(places))
+            break
+        places += [place] * (len(machine.events) - len(places))
+    return places
+
+
+def run_of(lines: List[str], profile: Profile, job: bytes) -> Run:
+    """A job by the lines that `pages` writes of it."""
+    failure = ""
+    if lines and lines[-1].startswith("FAIL "):
+        *lines, failure = lines
+    places = made_by(profile, job)
+    if len(places) != len(lines):
+        raise ValueError(f"{len(lines)} lines, and {len(places)} events by the second reading")
+    return Run([Made(*made) for made in zip(places, lines)], failure, len(job))
+
+
+def is_end(line: str) -> bool:
+    return line.startswith("page ")
+
+
+def shape(line: str) -> Tuple:
+    """A mark without its place: what it is, and how far its edges are apart."""
+    words = line.split(" ")
+    kind = words[0]
+    if kind == "row":
+        return (kind, words[1], words[4])
+    at = PLACES[kind]
+    edges = [int(word) for word in words[at:]]
+    if kind == "line":
+        return (kind, words[1], edges[2] - edges[0], edges[3] - edges[1])
+    left, top, right, bottom = edges
+    what = tuple(words[1:at])
+    if kind == "glyph":
+        what = (*words[1:at - 1], int(words[at - 1]) - top)
+    return (kind, what, right - left, bottom - top)
+
+
+def change_of(old: str, new: str) -> str:
+    if is_end(old) and is_end(new):
+        return "page ends otherwise"
+    if is_end(old):
+        return "only in NEW"
+    if is_end(new):
+        return "only in OLD"
+    return "moved" if shape(old) == shape(new) else "changed"
+
+
+def first_difference(old: Run, new: Run) -> Optional[Tuple[int, int, int, int, str]]:
+    page = mark = 1
+    for one, other in zip(old.made, new.made):
+        if one.line != other.line:
+            return page, mark, one.place, other.place, change_of(one.line, other.line)
+        page, mark = (page + 1, 1) if is_end(one.line) else (page, mark + 1)
+    common = min(len(old.made), len(new.made))
+    if len(old.made) > common:
+        return page, mark, old.made[common].place, new.end, "only in OLD"
+    if len(new.made) > common:
+        return page, mark, old.end, new.made[common].place, "only in NEW"
+    return None
+
+
+def failing(name: str, printer: str, failure: str) -> Due:
+    """What is told of a job that fails, by the last line of `pages`, whose profile is 1 or 0."""
+    _, at, profile, finding = failure.split(" ", 3)
+    told = f" printer={printer}" if profile != "profile=0" else ""
+    return Due(1, f"FAIL {at}{told} {finding} {name}",
+               {"job": name, "verdict": "FAIL", "at": int(at[3:])})
+
+
+def due_of(runs: List[Tuple[str, Run, Run]]) -> Due:
+    """What is due of two jobs, OLD and NEW, by their runs on each printer."""
+    for printer, old, new in runs:
+        for name, run in (("old", old), ("new", new)):
+            if run.failure:
+                return failing(name, printer, run.failure)
+        found = first_difference(old, new)
+        if found is not None:
+            page, mark, old_at, new_at, change = found
+            line = (f"DIFFERS page={page} mark={mark} old={old_at} new={new_at} "
+                    f"printer={printer} {change}")
+            return Due(1, line, {"old": "old", "new": "new", "verdict": "DIFFERS", "page": page,
+                                 "mark": mark, "old_at": old_at, "new_at": new_at,
+                                 "printer": printer, "change": change})
+    lines = [made.line for made in runs[0][1].made]
+    pages = sum(map(is_end, lines))
+    marks = len(lines) - pages
+    return Due(0, f"SAME pages={pages} marks={marks}",
+               {"old": "old", "new": "new", "verdict": "SAME", "pages": pages, "marks": marks})
+
+
+# ---- pairs
+
+Edit = Callable[[Random, bytes], bytes]
+
+
+def spelled(items) -> bytes:
+    return b"".join(canon(item) for item in items)
+
+
+def items_of(job: bytes) -> List:
+    return [item for _, item in lex(job).items]
+
+
+def swapped(random: Random, job: bytes) -> bytes:
+    items = items_of(job)
+    if len(items) > 1:
+        at = random.randrange(len(items) - 1)
+        items[at], items[at + 1] = items[at + 1], items[at]
+    return spelled(items)
+
+
+def shortened(random: Random, job: bytes) -> bytes:
+    items = items_of(job)
+    if items:
+        del items[random.randrange(len(items))]
+    return spelled(items)
+
+
+def doubled(random: Random, job: bytes) -> bytes:
+    items = items_of(job)
+    if items:
+        at = random.randrange(len(items))
+        items.insert(at, items[at])
+    return spelled(items)
+
+
+def with_page(_random: Random, job: bytes) -> bytes:
+    return job + b"\x1bE\x1b*p300x300Yx\x0c"
+
+
+def same(_random: Random, job: bytes) -> bytes:
+    return job
+
+
+EDITS: Tuple[Edit, ...] = (jobs.changed_number, jobs.changed_number, swapped, shortened, doubled,
+                           with_page, jobs.mutated, same)
+
+
+# ---- the program
+
+class Tried:
+    """A folder with the files of a case, in which the program runs."""
+
+    def __init__(self, program: str, folder: Path):
+        self.program = program
+        self.folder = folder
+
+    def run(self, *words: str) -> subprocess.CompletedProcess:
+        return subprocess.run([self.program, *words], cwd=self.folder, capture_output=True,
+                              timeout=SECONDS, check=False)
+
+    def lines(self, job: str, printer: str) -> List[str]:
+        return self.run("pages", job, printer).stdout.decode().splitlines()
+
+
+def told(tried: Tried, words: List[str], due: Due) -> int:
+    """How many of the two forms differ from what is due."""
+    run = tried.run("compare", "old", "new", *words)
+    differ = 0
+    if (run.returncode, run.stdout.decode()) != (due.status, due.line + "\n"):
+        print(f"compare {words}: due {due.status} {due.line!r}\n  told {run.returncode} "
+              f"{run.stdout!r} {run.stderr!r}")
+        differ += 1
+    run = tried.run("compare", "--format", "json", "old", "new", *words)
+    try:
+        object_told = json.loads(run.stdout)
+    except ValueError:
+        object_told = {}
+    if run.returncode != due.status or not due.members.items() <= object_told.items():
+        print(f"compare --format json {words}: due {due.members}\n  told {run.stdout!r}")
+        differ += 1
+    return differ
+
+
+def compared(tried: Tried, profiles: List[Profile], words: List[str], names: List[str]) -> int:
+    """How many forms differ of the files `old` and `new`."""
+    old_job, new_job = ((tried.folder / name).read_bytes() for name in ("old", "new"))
+    runs = [(name, run_of(tried.lines("old", word), profile, old_job),
+             run_of(tried.lines("new", word), profile, new_job))
+            for profile, word, name in zip(profiles, words, names)]
+    return told(tried, words, due_of(runs))
+
+
+def respelled(tried: Tried, profiles: List[Profile], words: List[str], names: List[str]) -> int:
+    """How many forms differ of a job and what `plain` and `pin` write of it."""
+    differ = 0
+    for command in (["plain", "old", "new"], ["pin", "old", words[0], "new"]):
+        if tried.run(*command).returncode != 0:
+            continue
+        one = command[0] == "pin"
+        few = (profiles[:1], words[:1], names[:1]) if one else (profiles, words, names)
+        differ += compared(tried, *few)
+        # A stored body may grow past the macro memory where it is pinned.
+        told_first = tried.run("compare", "old", "new", words[0]).stdout
+        if not told_first.startswith((b"SAME ", b"FAIL ")):
+            print(f"{command[0]} of a job is not the same: {told_first!r}")
+            differ += 1
+    return differ
+
+
+def name_in(text: bytes) -> str:
+    """The name that a text gives its printer, as sentences have it."""
+    for line in text.decode("utf-8", "replace").splitlines():
+        words = line.split()
+        if words[:1] == ["name"] and len(words) > 1:
+            return words[1]
+    return ""
+
+
+def named(text: bytes, name: str) -> bytes:
+    """The text with a name for its printer, unless it gives one."""
+    first, end, rest = text.partition(b"\n")
+    if name_in(text) or not end:
+        return text
+    return first + end + f"name {name}\n".encode() + rest
+
+
+def far_enough(job: bytes, profile: Profile) -> bytes:
+    """The items of a job before the one at which it fails."""
+    answer = oracle.pages_at(profile, profile.first_panel(), job)
+    if answer.status == oracle.PASS:
+        return job
+    at = int(answer.output.splitlines()[-1].split(b" ")[1][3:])
+    items = [item for place, item in lex(job).items if place < at]
+    return spelled(items) + (b"\x1b%0A" if lex(spelled(items)).mode == FRAME else b"")
+
+
+def main(program: str, count: int, seed: str) -> int:
+    program = str(Path(program).resolve())
+    done = differ = number = 0
+    while done < 2 * count:
+        random = Random(f"{seed}/edit/{number}")
+        case = jobs.random_case(seed, number)
+        number += 1
+        texts = [named(text, f"printer{at}")
+                 for at, text in enumerate(case.texts()[:MOST_PRINTERS])]
+        profiles, error = oracle.read_profiles(texts)
+        if error or not texts:
+            continue
+        with tempfile.TemporaryDirectory() as name:
+            tried = Tried(program, Path(name))
+            words = [f"p{at}.profile" for at in range(len(texts))]
+            for word, text in zip(words, texts):
+                (tried.folder / word).write_bytes(text)
+            # Most random jobs fail, and would tell nothing.
+            job = far_enough(case.job, profiles[0]) if random.random() < 0.8 else case.job
+            (tried.folder / "old").write_bytes(job)
+            (tried.folder / "new").write_bytes(random.choice(EDITS)(random, job))
+            names = [name_in(text) for text in texts]
+            wrong = compared(tried, profiles, words, names)
+            done += 2
+            if random.random() < 0.25:
+                wrong += respelled(tried, profiles, words, names)
+            if wrong:
+                print(f"  seed {seed}, job {number - 1}: {case.job!r}")
+            differ += wrong
+    print(f"{done} compared, {differ} differ")
+    return 1 if differ else 0
+
+
+if __name__ == "__main__":
+    if len(sys.argv) != 4:
+        sys.exit(__doc__)
+    sys.exit(main(sys.argv[1], int(sys.argv[2]), sys.argv[3]))
