@@ -12,8 +12,8 @@ function __pclcheck_command
             continue
         end
         switch "$found $word"
-            case ' check' ' survey' ' compare' ' list' ' pages' ' picture' ' pdf' ' notes' ' plain' ' pin' \
-                ' explain' ' profile' ' help' 'profile list' 'profile new' 'profile lint' \
+            case ' check' ' survey' ' compare' ' list' ' pages' ' picture' ' pdf' ' notes' ' plain' \
+                ' pin' ' explain' ' profile' ' help' 'profile list' 'profile new' 'profile lint' \
                 'profile show' 'profile sheet' 'profile from-pjl' 'profile help' 'help profile'
                 set found (string trim -- "$found $word")
             case ' --format'
