@@ -1,10 +1,10 @@
 //! The words of the command `compare`.
-ghost use Rattle.std.specs.Prelude.{IfOk, IfSome};
+ghost use Rattle.std.specs.Prelude.{◌++◌, ◌≢◌, [], IfOk, IfSome};
 ghost use Rattle.requests.specs.Words.{NamesSome};
 
 use crate::form_words::{SURVEY_FORMS, form_asked};
 use crate::rows::{CommandRow, Count, Need, OptionRow, Value, WordRow};
-use crate::texts::{both_texts, texts_of};
+use crate::texts::both_texts;
 use clap::ArgMatches;
 use requests::{CompareWords, Form, Request};
 use std::alloc::{AllocError, Global};
@@ -111,20 +111,34 @@ pub fn compare_request<'a>(
 ) -> Result<Option<Request<'a>>, AllocError>
     ensures { IfOk result (λ request. IfSome request NamesSome) }
 {
+    Ok(read_compared(alloc, usual, found)?.map(Request::Compare))
+}
+
+/// What the words name; nothing where that is no printer.
+fn read_compared<'a>(
+    alloc: Global,
+    usual: Form,
+    found: &ArgMatches<'a>,
+) -> Result<Option<CompareWords<'a>>, AllocError>
+    ensures { IfOk result (λ words. IfSome words (λ words.
+        words.printers.items ++ words.fleets.items ≢ [])) }
+{
     let Some((old_job, new_job)) = both_texts(found, "OLD", "NEW") else {
         return Ok(None);
     };
-    let mut printers = texts_of(alloc, found, "PROFILE")?;
+    let mut printers = Vec::new(alloc);
+    printers.extend_from_slice(found.get_strs("PROFILE").unwrap_or(&[]))?;
     printers.extend_from_slice(found.get_strs("PRINTER").unwrap_or(&[]))?;
-    let fleets = texts_of(alloc, found, "FLEET")?;
+    let mut fleets = Vec::new(alloc);
+    fleets.extend_from_slice(found.get_strs("FLEET").unwrap_or(&[]))?;
     if printers.is_empty() && fleets.is_empty() {
         return Ok(None);
     }
-    Ok(Some(Request::Compare(CompareWords {
+    Ok(Some(CompareWords {
         old_job,
         new_job,
         printers,
         fleets,
         form: form_asked(found).unwrap_or(usual),
-    })))
+    }))
 }

@@ -1,5 +1,5 @@
 -- What is found on one printer after another, and what is written of it.
-use Rattle.std.proofs.Common.{◌≡◌, ◌+◌, ◌++◌, ◌<◌, ◌≤◌, ℕ, List, [], ◌∷◌, true, false, length, drop, get_or, Result, Ok, Err, IfOk, ap}
+use Rattle.std.proofs.Common.{◌≡◌, ◌+◌, ◌++◌, ◌<◌, ◌≤◌, ℕ, List, [], ◌∷◌, false, length, drop, get_or, Result, Ok, Err, IfOk, ap}
 use Rattle.std.proofs.Common.{append_assoc, refl, subst, sym, ◌∙◌}
 use Rattle.std.proofs.lemmas.List.{drop_all, drop_more}
 use Rattle.streams.specs.declared.error.Error.{Error}

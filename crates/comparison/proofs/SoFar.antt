@@ -158,9 +158,9 @@ ComparesFront new_now new_now' spot spot' place f front old new =
     AreLevel printer panel new_first new_now spot old_made old →
     AreLevel printer panel new_first new_now' spot' (old_made ++ made_at place (map f front)) new
 
-pub front_none : {X : Type 0} (new_now : SourceState) (spot : Spot) (place : ℕ) (f : X → Event) (old : Following) →
-    ComparesFront new_now new_now spot spot place f [] old old
-front_none new_now spot place f old printer panel new_first old_made level =
+pub front_none : {X : Type 0} (new_now : SourceState) (spot : Spot) (place : ℕ) (f : X → Event) (xs : List X) (old : Following) →
+    ComparesFront new_now new_now spot spot place f (take 0 xs) old old
+front_none new_now spot place f xs old printer panel new_first old_made level =
     subst (λ m. AreLevel printer panel new_first new_now spot m old) (sym (append-nil old_made)) level
 
 module _ {X : Type 0} (new_now new_mid new_now' : SourceState) (spot mid spot' : Spot) (place : ℕ) (f : X → Event) (xs : List X) (i : ℕ)

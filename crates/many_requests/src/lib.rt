@@ -1,11 +1,11 @@
 //! A check of many jobs and a comparison of two by request, on files.
 #![tactic(auto)]
 
-mod comparison;
+mod compared_jobs;
 mod inputs;
 mod lists;
 mod many;
 mod names;
 
-pub use comparison::compare_asked;
+pub use compared_jobs::compare_asked;
 pub use many::check_asked;

@@ -2,9 +2,15 @@ use Rattle.std.proofs.Common.{IsFalse, inl, inr, map, refl, subst, sym}
 use Rattle.compare_command.specs.Compare.{LeavesFound, asked_for}
 use Rattle.compare_command.proofs.command.compare.Goals as goal
 
-pub compare_on_printers-requires-clause-stderr : goal.compare_on_printers-requires-clause-stderr
-compare_on_printers-requires-clause-stderr g c =
-    subst (λ stderr. IsFalse (g.E.Outlet.state stderr).failed) (sym c.in-Ok.ensures.quiet) c.requires.stderr
+pub compare_on_printers-requires : goal.compare_on_printers-requires
+compare_on_printers-requires g c =
+    λ k. (
+      (refl, tt),
+      (
+        c.requires.stdout,
+        subst (λ stderr. IsFalse (g.E.Outlet.state stderr).failed) (sym c.in-Ok.ensures.quiet) c.requires.stderr,
+      ),
+    )
 
 pub returns-in-Ok-clause-left : goal.returns-in-Ok-clause-left
 returns-in-Ok-clause-left g c =

@@ -9,7 +9,10 @@ use Rattle.compare_command.proofs.command.find.Goals as goal
 
 pub compare_on-requires : goal.compare_on-requires
 compare_on-requires g c =
-    subst (λ stderr. IsFalse (g.E.Outlet.state stderr).failed) (sym c.loop-index.invariant.quiet) c.requires
+    λ k. (
+      (refl, tt),
+      subst (λ stderr. IsFalse (g.E.Outlet.state stderr).failed) (sym c.loop-index.invariant.quiet) c.requires,
+    )
 
 pub loop-index-init : goal.loop-index-init
 loop-index-init g c = record {
@@ -26,25 +29,25 @@ pub loop-index-preserved : goal.loop-index-preserved
 loop-index-preserved g c =
     let so_far = c.loop-index.invariant in
     record {
-      start = c.compare_on-comparison.ensures.start ∙ so_far.start;
+      start = c.compare_on.ensures.start ∙ so_far.start;
       quiet = c.in_ok-comparison.ensures.quiet ∙ so_far.quiet;
       onward = λ found ended h.
           so_far.onward found ended
           (same_more (g.J.Jobs.start c.args.jobs.now) (g.J.Jobs.start c.loop-index.jobs) so_far.start c.args.asked.now.old_name.now
           c.args.asked.now.new_name.now c.args.fleet.now c.loop-index.index c.index-fleet-index.result c.loop-index-test.true
           c.index-fleet-index.is c.loop-index.counts c.in_ok-comparison.comparison (g.J.Jobs.ended c.loop-index.jobs)
-          (g.J.Jobs.ended c.compare_on-comparison.new.jobs) c.in_ok-comparison.ensures.compared c.in-Same.these c.first_counts.result
-          c.in-Same.is c.first_counts.ensures found ended h);
+          (g.J.Jobs.ended c.compare_on.new.jobs) c.in_ok-comparison.ensures.compared c.in-Same.these c.first_counts-counts.result
+          c.in-Same.is c.first_counts-counts.ensures found ended h);
     }
 
 pub returns-in_default-clause-found : goal.returns-in_default-clause-found
 returns-in_default-clause-found g c =
     let so_far = c.loop-index.invariant in
-    so_far.onward (found_at (c.loop-index.index + 1) c.in_ok-comparison.comparison) (g.J.Jobs.ended c.compare_on-comparison.new.jobs)
+    so_far.onward (found_at (c.loop-index.index + 1) c.in_ok-comparison.comparison) (g.J.Jobs.ended c.compare_on.new.jobs)
     (found_more (g.J.Jobs.start c.args.jobs.now) (g.J.Jobs.start c.loop-index.jobs) so_far.start c.args.asked.now.old_name.now
     c.args.asked.now.new_name.now c.args.fleet.now c.loop-index.index c.index-fleet-index.result c.loop-index-test.true
     c.index-fleet-index.is c.loop-index.counts c.in_ok-comparison.comparison (g.J.Jobs.ended c.loop-index.jobs)
-    (g.J.Jobs.ended c.compare_on-comparison.new.jobs) c.in_ok-comparison.ensures.compared c.in_default.not-Same)
+    (g.J.Jobs.ended c.compare_on.new.jobs) c.in_ok-comparison.ensures.compared c.in_default.not-Same)
 
 pub returns-in_default-clause-quiet : goal.returns-in_default-clause-quiet
 returns-in_default-clause-quiet g c = c.in_ok-comparison.ensures.quiet ∙ c.loop-index.invariant.quiet
@@ -54,8 +57,8 @@ returns-in_err-comparison-clause-stopped g c =
     let asked = c.args.asked.now in
     subst
     (λ (err : OutletState). IfErr c.from_residual.result (λ status. StopsAt asked.old_name.now status err
-    (g.E.Outlet.state c.compare_on-comparison.new.stderr) ⊎ StopsAt asked.new_name.now status err
-    (g.E.Outlet.state c.compare_on-comparison.new.stderr)))
+    (g.E.Outlet.state c.compare_on.new.stderr) ⊎ StopsAt asked.new_name.now status err
+    (g.E.Outlet.state c.compare_on.new.stderr)))
     (ap g.E.Outlet.state c.loop-index.invariant.quiet)
     (let same = err_from_is_err_and c.from_residual.result c.from_residual.ensures.1 in
     rw (same.1, same.2) c.in_err-comparison.ensures.stopped)

@@ -22,12 +22,12 @@ compare_step-requires-clause-running g c = sym c.is_open.ensures ∙ c.steps-tes
 pub steps-preserved : goal.steps-preserved
 steps-preserved g c =
     let so_far = c.steps.invariant in
-    let new = c.compare_step-found.new in
+    let new = c.compare_step.new in
     record {
       old_working = c.in_ok-found.ensures.old_read;
       new_working = c.in_ok-found.ensures.new_read;
-      old_number = c.compare_step-found.ensures.old_number ∙ so_far.old_number;
-      new_number = c.compare_step-found.ensures.new_number ∙ so_far.new_number;
+      old_number = c.compare_step.ensures.old_number ∙ so_far.old_number;
+      new_number = c.compare_step.ensures.new_number ∙ so_far.new_number;
       alike = λ printer panel old_first new_first run followed.
           subst
           (λ found. StepCompared found printer panel old_first (g.S.Source.state new.old_job) new_first (g.T.Source.state new.new_job)
@@ -41,7 +41,7 @@ steps-smaller g c = c.in_ok-found.ensures.less
 
 pub returns-in-Some-clause-compared : goal.returns-in-Some-clause-compared
 returns-in-Some-clause-compared g c = λ printer panel old_first new_first run followed.
-    let new = c.compare_step-found.new in
+    let new = c.compare_step.new in
     subst
     (λ found. StepCompared found printer panel old_first (g.S.Source.state new.old_job) new_first (g.T.Source.state new.new_job)
     new.first new.spot new.second)
@@ -77,13 +77,13 @@ pub returns-clause-err : goal.returns-clause-err
 returns-clause-err g c = errors_of_new c.compare_ends.result c.compare_ends.ensures.err
 
 pub returns-in_err-found-clause-old_number : goal.returns-in_err-found-clause-old_number
-returns-in_err-found-clause-old_number g c = c.compare_step-found.ensures.old_number ∙ c.steps.invariant.old_number
+returns-in_err-found-clause-old_number g c = c.compare_step.ensures.old_number ∙ c.steps.invariant.old_number
 
 pub returns-in_err-found-clause-new_number : goal.returns-in_err-found-clause-new_number
-returns-in_err-found-clause-new_number g c = c.compare_step-found.ensures.new_number ∙ c.steps.invariant.new_number
+returns-in_err-found-clause-new_number g c = c.compare_step.ensures.new_number ∙ c.steps.invariant.new_number
 
 pub returns-in-Some-clause-old_number : goal.returns-in-Some-clause-old_number
-returns-in-Some-clause-old_number g c = c.compare_step-found.ensures.old_number ∙ c.steps.invariant.old_number
+returns-in-Some-clause-old_number g c = c.compare_step.ensures.old_number ∙ c.steps.invariant.old_number
 
 pub returns-in-Some-clause-new_number : goal.returns-in-Some-clause-new_number
-returns-in-Some-clause-new_number g c = c.compare_step-found.ensures.new_number ∙ c.steps.invariant.new_number
+returns-in-Some-clause-new_number g c = c.compare_step.ensures.new_number ∙ c.steps.invariant.new_number

@@ -10,7 +10,7 @@ pub returns-in-Some : goal.returns-in-Some
 returns-in-Some g c =
     let place = c.place.ensures ∙ ap (λ (f : Following). f.run.place) c.self.view_is in
     ap Some (c.difference.ensures ∙ ap (λ n. difference_at c.args.spot c.args.end n OnlyInNew) place)
-    ∙ sym (further_some c.args.self.now c.args.spot c.args.end (event_of c.in-Some.next.now) c.in-Some.ensures)
+    ∙ sym (further_some c.args.self.now c.args.spot c.args.end (event_of c.in-Some.field-0.now) c.in-Some.ensures)
 
 pub returns-in-None : goal.returns-in-None
 returns-in-None g c = sym (further_none c.args.self.now c.args.spot c.args.end c.in-None.ensures)

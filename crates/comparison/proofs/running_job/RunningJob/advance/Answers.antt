@@ -4,16 +4,16 @@ use Rattle.comparison.specs.Running.{HasRun, RunState, TakesWork, is_open}
 use Rattle.comparison.proofs.Running.{advanced, runs_after, stepped_run, waits_now, work_taken}
 use Rattle.comparison.proofs.running_job.RunningJob.advance.Goals as goal
 
-pub step-requires-clause-running : goal.step-requires-clause-running
-step-requires-clause-running g c =
+pub step-stepped-requires-clause-running : goal.step-stepped-requires-clause-running
+step-stepped-requires-clause-running g c =
     (c.self.invariant (ap (λ (s : RunState). is_open s.progress) c.self.view_is ∙ c.requires)).0
 
-pub step-requires-clause-mode : goal.step-requires-clause-mode
-step-requires-clause-mode g c =
+pub step-stepped-requires-clause-mode : goal.step-stepped-requires-clause-mode
+step-stepped-requires-clause-mode g c =
     (c.self.invariant (ap (λ (s : RunState). is_open s.progress) c.self.view_is ∙ c.requires)).1
 
-pub step-requires-clause-empty : goal.step-requires-clause-empty
-step-requires-clause-empty g c = ap (λ (r : Recorded). r.events) c.clear.ensures
+pub step-stepped-requires-clause-empty : goal.step-stepped-requires-clause-empty
+step-stepped-requires-clause-empty g c = ap (λ (r : Recorded). r.events) c.clear.ensures
 
 pub invariant_of-self : goal.invariant_of-self
 invariant_of-self g c = λ running.
@@ -21,7 +21,7 @@ invariant_of-self g c = λ running.
     let ready = c.self.invariant (ap (λ (s : RunState). is_open s.progress) c.self.view_is ∙ c.requires) in
     let stands =
     runs_after c.step-stepped.result l.lexer c.step-stepped.new.lexer c.step-stepped.new.machine c.step-stepped.new.recorder.events
-    (sym (ap is_open c.progress_after.ensures) ∙ running) c.step-stepped.ensures.leaves in
+    (sym (ap is_open c.progress_after-self-inside.ensures) ∙ running) c.step-stepped.ensures.leaves in
     (stands.0, stands.1, c.step-stepped.ensures.place ∙ ready.2, ready.3, ready.4)
 
 pub returns-clause-came : goal.returns-clause-came
@@ -39,8 +39,9 @@ returns-clause-came g c = λ printer panel first now made h.
     } in
     advanced fields c.step-stepped.new.lexer c.step-stepped.new.machine c.step-stepped.new.recorder.events
     (ap (λ (s : RunState). is_open s.progress) c.self.view_is ∙ c.requires) c.step-stepped.ensures.ended printer panel first now made
-    (subst (λ (s : RunState). HasRun printer panel first now made s) (sym c.self.view_is) h) c.step-stepped.result c.place_after.result
-    c.progress_after.result c.place_after.ensures c.progress_after.ensures c.step-stepped.ensures.came c.step-stepped.ensures.leaves
+    (subst (λ (s : RunState). HasRun printer panel first now made s) (sym c.self.view_is) h) c.step-stepped.result
+    c.place_after-self-inside.result c.progress_after-self-inside.result c.place_after-self-inside.ensures
+    c.progress_after-self-inside.ensures c.step-stepped.ensures.came c.step-stepped.ensures.leaves
 
 pub returns-clause-waits : goal.returns-clause-waits
 returns-clause-waits g c = λ more.
@@ -55,8 +56,8 @@ returns-clause-waits g c = λ more.
       number = l.number;
       progress = l.progress;
     } in
-    waits_now fields c.step-stepped.new.lexer c.step-stepped.new.machine c.step-stepped.new.recorder.events c.place_after.result
-    c.progress_after.result c.step-stepped.result c.progress_after.ensures c.step-stepped.ensures.leaves more
+    waits_now fields c.step-stepped.new.lexer c.step-stepped.new.machine c.step-stepped.new.recorder.events c.place_after-self-inside.result
+    c.progress_after-self-inside.result c.step-stepped.result c.progress_after-self-inside.ensures c.step-stepped.ensures.leaves more
 
 pub returns-clause-less : goal.returns-clause-less
 returns-clause-less g c =
@@ -73,11 +74,12 @@ returns-clause-less g c =
     } in
     subst
     (λ (s : RunState). TakesWork c.step-stepped.result s (stepped_run fields c.step-stepped.new.lexer c.step-stepped.new.machine
-    c.step-stepped.new.recorder.events c.place_after.result c.progress_after.result))
+    c.step-stepped.new.recorder.events c.place_after-self-inside.result c.progress_after-self-inside.result))
     c.self.view_is
-    (work_taken fields c.step-stepped.new.lexer c.step-stepped.new.machine c.step-stepped.new.recorder.events c.place_after.result
-    c.progress_after.result (ap (λ (s : RunState). is_open s.progress) c.self.view_is ∙ c.requires) c.step-stepped.result
-    c.progress_after.ensures c.step-stepped.ensures.leaves)
+    (work_taken fields c.step-stepped.new.lexer c.step-stepped.new.machine c.step-stepped.new.recorder.events
+    c.place_after-self-inside.result c.progress_after-self-inside.result
+    (ap (λ (s : RunState). is_open s.progress) c.self.view_is ∙ c.requires) c.step-stepped.result
+    c.progress_after-self-inside.ensures c.step-stepped.ensures.leaves)
 
 pub returns-clause-number : goal.returns-clause-number
 returns-clause-number g c = ap (λ (s : RunState). s.number) c.self.view_is

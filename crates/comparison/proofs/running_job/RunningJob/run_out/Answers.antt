@@ -1,4 +1,4 @@
-use Rattle.std.proofs.Common.{◌≡◌, ap, false, refl, sym, true, ◌∙◌}
+use Rattle.std.proofs.Common.{◌≡◌, ap, false, refl, sym, ◌∙◌}
 use Rattle.std.proofs.lemmas.Bool.{false≢true}
 use Rattle.comparison.specs.Running.{RunState, is_open}
 use Rattle.comparison.proofs.Running.{ran_none, ran_on}

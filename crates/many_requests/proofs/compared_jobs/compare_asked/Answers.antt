@@ -4,7 +4,7 @@ use Rattle.many_requests.proofs.Asking.{some_printer}
 use Rattle.many_requests.proofs.Fleets.{fleets_count, fleets_told}
 use Rattle.many_requests.specs.Checks.{ReadsFleets}
 use Rattle.many_requests.specs.Comparisons.{LeavesOnFiles, asked_by, printers_by}
-use Rattle.many_requests.proofs.comparison.compare_asked.Goals as goal
+use Rattle.many_requests.proofs.compared_jobs.compare_asked.Goals as goal
 
 pub compare_on_files-requires-clause-some : goal.compare_on_files-requires-clause-some
 compare_on_files-requires-clause-some g c =

@@ -4,7 +4,7 @@ use Rattle.std.proofs.lemmas.Simd.{map-map}
 use Rattle.compare_command.specs.Compare.{asked_for}
 use Rattle.named_inputs.specs.Texts.{text_named}
 use Rattle.many_requests.proofs.ComparisonLeft.{compared_left}
-use Rattle.many_requests.proofs.comparison.compare_on_files.Goals as goal
+use Rattle.many_requests.proofs.compared_jobs.compare_on_files.Goals as goal
 
 pub returns : goal.returns
 returns g c =
