@@ -2,7 +2,7 @@
 use Rattle.std.proofs.Common.{◌≡◌, ◌∙◌, ℕ, ◌+◌, ◌-◌, List, [], ◌++◌, Result, Ok, Err, ap, append_assoc, length}
 use Rattle.std.specs.Prelude.{OnOk}
 use Rattle.page_pdf.specs.Document.{HasWritten, Pdf, Written, and_last, and_then, capped, four, opens_page, writes}
-use Rattle.page_pdf.proofs.Counting.{longer}
+use Rattle.page_pdf.proofs.Loops.{longer}
 
 -- ---- a text
 

@@ -46,7 +46,7 @@ fn push_entry<A: Allocator>(
 }
 
 /// Appends what each of the first codes stands for.
-#[tactic(auto, unfolding(crate::specs::Maps::entries_to), using(crate::proofs::Counting::entries_more))]
+#[tactic(auto, unfolding(crate::specs::Maps::entries_to), using(crate::proofs::Loops::entries_more))]
 fn push_entries<A: Allocator>(
     text: &mut Vec<u8, A>,
     repertoire: Repertoire,

@@ -140,7 +140,7 @@ fn push_label_reference<A: Allocator>(text: &mut Vec<u8, A>, index: u64) -> Resu
     text.extend_from_slice(ObjectPart::Reference.bytes())
 }
 
-#[tactic(auto, using(crate::proofs::Counting::entries_more))]
+#[tactic(auto, using(crate::proofs::Loops::entries_more))]
 fn push_page_references<A: Allocator>(text: &mut Vec<u8, A>, count: u64) -> Result<(), AllocError>
     requires { count ≤ 2 ^ 61 }
     ensures { OnOk result (text.new.items ≡ text.old.items ++ page_references count) }
@@ -151,7 +151,7 @@ fn push_page_references<A: Allocator>(text: &mut Vec<u8, A>, count: u64) -> Resu
     Ok(())
 }
 
-#[tactic(auto, using(crate::proofs::Counting::entries_more))]
+#[tactic(auto, using(crate::proofs::Loops::entries_more))]
 fn push_label_references<A: Allocator>(text: &mut Vec<u8, A>, count: u64) -> Result<(), AllocError>
     requires { count ≤ 2 ^ 61 }
     ensures { OnOk result (text.new.items ≡ text.old.items ++ label_references count) }
