@@ -12,8 +12,8 @@ function __pclcheck_command
             continue
         end
         switch "$found $word"
-            case ' check' ' survey' ' compare' ' list' ' pages' ' picture' ' notes' ' plain' ' pin' \
-                ' explain' ' profile' ' help' 'profile list' 'profile new' 'profile lint' \
+            case ' check' ' survey' ' compare' ' list' ' pages' ' picture' ' pdf' ' notes' ' plain' \
+                ' pin' ' explain' ' profile' ' help' 'profile list' 'profile new' 'profile lint' \
                 'profile show' 'profile sheet' 'profile from-pjl' 'profile help' 'help profile'
                 set found (string trim -- "$found $word")
             case ' --format'
@@ -97,6 +97,8 @@ for place in '' help
         -d 'Writes what a job marks on its pages, from the first panel setting of a printer'
     complete -c pclcheck -n "__pclcheck_at '$place'" -a picture \
         -d 'Draws a page of a job, from one panel setting of a printer'
+    complete -c pclcheck -n "__pclcheck_at '$place'" -a pdf \
+        -d 'Writes the pages of a job as a PDF document, from one panel setting of a printer'
     complete -c pclcheck -n "__pclcheck_at '$place'" -a notes \
         -d 'Tells what a job leaves to a printer, though it passes'
     complete -c pclcheck -n "__pclcheck_at '$place'" -a plain \
@@ -171,6 +173,14 @@ complete -c pclcheck -n '__pclcheck_at picture' -l boxes -d 'Draws the box of ea
 complete -c pclcheck -n '__pclcheck_at picture' -l panel -x -a '(__pclcheck_fields)' \
     -d 'Draws from these values of the panel; each field that is not named has its first value'
 complete -c pclcheck -n '__pclcheck_at picture' -a '(__pclcheck_samples)' -d sample
+
+complete -c pclcheck -n '__pclcheck_at pdf' -l page -x \
+    -d 'The page to write, from 1; without it all'
+complete -c pclcheck -n '__pclcheck_at pdf' -l proof \
+    -d 'Draws the logical page, the printable area, and at the foot of each page its number and the verdict'
+complete -c pclcheck -n '__pclcheck_at pdf' -l panel -x -a '(__pclcheck_fields)' \
+    -d 'Writes from these values of the panel; each field that is not named has its first value'
+complete -c pclcheck -n '__pclcheck_at pdf' -a '(__pclcheck_samples)' -d sample
 
 complete -c pclcheck -n '__pclcheck_at notes' -a '(__pclcheck_samples)' -d sample
 

@@ -3,6 +3,7 @@
 use crate::check_words::{CHECK, EXPLANATION};
 use crate::compare_words::COMPARE;
 use crate::form_words::FORMAT;
+use crate::pdf_words::PDF;
 use crate::picture_words::PICTURE;
 use crate::profile_tool_words::{PROFILE_FROM_PJL, PROFILE_LINT, PROFILE_SHEET, PROFILE_SHOW};
 use crate::profile_words::{PROFILE_COMMANDS, PROFILE_LIST, PROFILE_NEW};
@@ -45,7 +46,7 @@ const PROGRAM_SHORT_HELP: &str = "Usage: pclcheck <COMMAND>
   compare  whether two jobs print the same
   list     each command of a job
   pages    each mark of a job on a printer
-  picture  a page of a job, drawn
+  picture  a page of a job, drawn; pdf writes all as a document
   notes    what a job that passes leaves to the printer
   plain    a job in its one spelling
   pin      a job that leaves nothing to the panel
@@ -89,6 +90,7 @@ pub(crate) enum CommandName {
     List,
     Pages,
     Picture,
+    Pdf,
     Notes,
     Plain,
     Pin,
@@ -110,6 +112,7 @@ const BELOW_PROGRAM: &[CommandName] = &[
     CommandName::List,
     CommandName::Pages,
     CommandName::Picture,
+    CommandName::Pdf,
     CommandName::Notes,
     CommandName::Plain,
     CommandName::Pin,
@@ -138,6 +141,7 @@ impl CommandName {
             CommandName::List => LIST,
             CommandName::Pages => PAGES,
             CommandName::Picture => PICTURE,
+            CommandName::Pdf => PDF,
             CommandName::Notes => NOTES,
             CommandName::Plain => PLAIN,
             CommandName::Pin => PIN,

@@ -8,6 +8,7 @@ mod compare_words;
 mod form_words;
 mod many_words;
 mod panel_words;
+mod pdf_words;
 mod picture_words;
 mod profile_tool_words;
 mod profile_words;

@@ -9,6 +9,7 @@ use crate::commands::{CommandName, command, command_asked};
 use crate::compare_words::compare_request;
 use crate::form_words::form_asked;
 use crate::panel_words::ChoiceFault;
+use crate::pdf_words::pdf_request;
 use crate::picture_words::picture_request;
 use crate::profile_words::profile_request;
 use crate::survey_words::survey_request;
@@ -153,6 +154,12 @@ fn overwritten(request: &Request<'_>) -> Option<Input>
 {
     let (job, profile, out) = match request {
         Request::Plain { job, out } => (job, None, out),
+        Request::Pdf {
+            job,
+            profile,
+            out,
+            ..
+        } => (job, Some(profile), out),
         Request::Pin {
             job,
             profile,
@@ -213,6 +220,9 @@ fn request_of<'a>(
     }
     if let Some(found) = matches.subcommand_matches("picture") {
         return picture_request(alloc, found);
+    }
+    if let Some(found) = matches.subcommand_matches("pdf") {
+        return pdf_request(alloc, found);
     }
     if let Some(found) = matches.subcommand_matches("explain") {
         let code = code_asked(found);

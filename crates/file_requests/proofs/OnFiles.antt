@@ -6,6 +6,8 @@ use Rattle.profile_commands.specs.ProfileFromPjl.{AsksBaseIfAny, LeavesAnswered}
 use Rattle.profile_commands.specs.ProfileLint.{LeavesLint}
 use Rattle.profile_commands.specs.ProfileSheet.{LeavesSheet}
 use Rattle.profile_commands.specs.ProfileShow.{LeavesShown}
+use Rattle.device_profile.specs.Printer.{Printer}
+use Rattle.pdf_command.specs.Pdf.{LeavesPdf}
 use Rattle.picture_command.specs.Picture.{BeforeAndAfter, HasNoEnd, IsNamedBy, LeavesPicture}
 use Rattle.renderings.specs.Expected.{Rendering, plain_rendering}
 use Rattle.streams.specs.declared.error.Error.TheVariants.{Turns}
@@ -32,7 +34,7 @@ use Rattle.subcommands.specs.JobTexts.{EndsBy, LeavesOut, LeavesPages, LeavesPin
 use Rattle.survey.specs.Command.{LeavesSurvey}
 use Rattle.file_requests.specs.Outs.{EndsOut, PutsOut}
 use Rattle.file_requests.specs.JobRequests.{LeavesCheck, LeavesNotesFor, LeavesPagesFor, LeavesPictureOfFile, LeavesPin}
-use Rattle.file_requests.specs.JobRequests.{LeavesPlain, LeavesRendered, LeavesSurveyOf}
+use Rattle.file_requests.specs.JobRequests.{LeavesPdfAt, LeavesPlain, LeavesRendered, LeavesSurveyOf}
 use Rattle.file_requests.specs.ProfileRequests.{LeavesAnsweredFor, LeavesLintFor, LeavesSheetFor, LeavesShownFor}
 
 -- ---- profiles
@@ -339,6 +341,59 @@ pin_left path into at to word choices given texts failed job job' answer status 
           none
           (subst
           (λ s. EndsBy answer (λ s s'. LeavesPinned answer (IsNamed (text_named word) given texts) choices s s' file file' out out') s job'
+          (job'.failed || failed) (file'.failed || out'.failed))
+          new ends)));
+      choice = subst (λ g. TellsOfPin answer (IsNamed (text_named word) g texts) choices err err') none choice;
+      put = puts_out into answer status file' ended end;
+    }
+
+-- the printer of this word, by these texts
+abbrev named_by : (word : List ℕ) → (given texts : List (List ℕ)) → Printer → List ℕ → Type 0
+named_by word given texts = IsNamedBy given texts (IsNamed (text_named word) given texts)
+
+pub pdf_left : (path into at to word : List ℕ) (choices : List Choice) (selection : Selection) (is_proof : Bool)
+    (given texts : List (List ℕ)) (failed : Bool)
+    (job job' : SourceState) (answer status : Status) (out out' file file' err err' : OutletState) (ended : FileOutletState)
+    (before named : List (List ℕ)) (used early between used' : List FileUse)
+    → given ≡ [] → job ≡ no_source → file ≡ no_outlet
+    → EndsBy answer (λ s s'. LeavesPdf answer (named_by word given texts) choices selection is_proof path s s' file file' out out') job job'
+    (job'.failed || failed) (file'.failed || out'.failed)
+    → TellsOfPin answer (IsNamed (text_named word) given texts) choices err err'
+    → EndsOut answer status file' ended
+    → before ≡ [] → named ≡ before ++ word ∷ [] → early ≡ used ++ TextsAt named texts failed ∷ []
+    → at ≡ path → to ≡ into → between ≡ early ++ read_at at job' ∷ [] → used' ≡ between ++ written_at to ended.outlet ended.is_put ∷ []
+    → LeavesPdfAt path into word choices selection is_proof status used used' out out' err err'
+pdf_left path into at to word choices selection is_proof given texts failed job job' answer status out out' file file' err err' ended
+    before named used early between used' none new unwritten ends choice end unnamed are told is is_out read written = record {
+      job = job';
+      texts = texts;
+      failed = failed;
+      file = file';
+      answer = answer;
+      one = written_at into ended.outlet ended.is_put;
+      used_are =
+          one_behind used between used' (TextsAt (word ∷ []) texts failed ∷ read_at path job' ∷ [])
+          (written_at into ended.outlet ended.is_put)
+          (one_more used early between (TextsAt (word ∷ []) texts failed) (read_at path job')
+          (texts_read used early before named texts (word ∷ []) failed unnamed are told) (one_read early between path at job' is read))
+          (one_written between used' into to ended.outlet ended.is_put is_out written);
+      ends =
+          at_reads answer (λ s s'. LeavesPdf answer (named_by word [] texts) choices selection is_proof path s s' no_outlet file' out out')
+          no_source
+          job' (job'.failed || failed) (file'.failed || out'.failed)
+          (subst
+          (λ f. EndsBy answer (λ s s'. LeavesPdf answer (named_by word [] texts) choices selection is_proof path s s' f file' out out')
+          no_source
+          job' (job'.failed || failed) (file'.failed || out'.failed))
+          unwritten
+          (subst
+          (λ g. EndsBy answer (λ s s'. LeavesPdf answer (named_by word g texts) choices selection is_proof path s s' file file' out out')
+          no_source
+          job' (job'.failed || failed) (file'.failed || out'.failed))
+          none
+          (subst
+          (λ s. EndsBy answer
+          (λ s s'. LeavesPdf answer (named_by word given texts) choices selection is_proof path s s' file file' out out') s job'
           (job'.failed || failed) (file'.failed || out'.failed))
           new ends)));
       choice = subst (λ g. TellsOfPin answer (IsNamed (text_named word) g texts) choices err err') none choice;

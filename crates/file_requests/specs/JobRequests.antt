@@ -17,6 +17,7 @@ use Rattle.subcommands.specs.JobNotes.{LeavesNotes}
 use Rattle.survey.specs.Command.{LeavesSurvey}
 use Rattle.subcommands.specs.JobTexts.{EndsBy, LeavesOut, LeavesPages, LeavesPinned, LeavesText}
 use Rattle.named_inputs.specs.Choices.{TellsOfPin}
+use Rattle.pdf_command.specs.Pdf.{LeavesPdf}
 use Rattle.picture_command.specs.Picture.{HasNoEnd, IsNamedBy, LeavesPicture}
 use Rattle.file_requests.specs.Outs.{PutsOut}
 use Rattle.requests.specs.Status.{is_stop_of_read, is_stop_of_write}
@@ -139,6 +140,24 @@ pub record LeavesPin (path into word : List ℕ) (choices : List Choice) (status
   pub used_are : used' ≡ used ++ TextsAt (word ∷ []) texts failed ∷ read_at path job ∷ one ∷ []
   pub ends : EndsBy answer
       (λ old new. LeavesPinned answer (IsNamed (text_named word) [] texts) choices old new no_outlet file out out')
+      no_source job (is_stop_of_read answer) (file.failed || out'.failed)
+  pub choice : TellsOfPin answer (IsNamed (text_named word) [] texts) choices err err'
+  pub put : PutsOut into answer status file one
+
+-- pages of the job at a path as a document, from the panel that is chosen of the printer that this word names, put in
+-- the place of the file at another
+pub record LeavesPdfAt (path into word : List ℕ) (choices : List Choice) (selection : Selection) (is_proof : Bool)
+    (status : Status) (used used' : List FileUse) (out out' err err' : OutletState) : Type 0 where
+  pub job : SourceState
+  pub texts : List (List ℕ)
+  pub failed : Bool
+  pub file : OutletState
+  pub answer : Status
+  pub one : FileUse
+  pub used_are : used' ≡ used ++ TextsAt (word ∷ []) texts failed ∷ read_at path job ∷ one ∷ []
+  pub ends : EndsBy answer
+      (λ old new. LeavesPdf answer (IsNamedBy [] texts (IsNamed (text_named word) [] texts)) choices selection is_proof
+      path old new no_outlet file out out')
       no_source job (is_stop_of_read answer) (file.failed || out'.failed)
   pub choice : TellsOfPin answer (IsNamed (text_named word) [] texts) choices err err'
   pub put : PutsOut into answer status file one

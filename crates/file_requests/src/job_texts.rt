@@ -3,13 +3,15 @@
 ghost use Rattle.renderings.specs.Expected.{list_rendering};
 ghost use Rattle.std.specs.Prelude.{◌≢◌, [], IsFalse, map};
 ghost use Rattle.file_requests.specs.JobRequests.{LeavesCheck, LeavesNotesFor, LeavesPagesFor};
-ghost use Rattle.file_requests.specs.JobRequests.{LeavesPictureFor, LeavesPin, LeavesPlain};
+ghost use Rattle.file_requests.specs.JobRequests.{LeavesPdfAt, LeavesPictureFor, LeavesPin};
+ghost use Rattle.file_requests.specs.JobRequests.{LeavesPlain};
 ghost use Rattle.file_requests.specs.JobRequests.{LeavesRendered, LeavesSurveyOf};
 ghost use Rattle.named_inputs.specs.Texts.{text_named};
 
 use crate::outs::end_out;
 use job_reports::{is_pipe, refuse_pipe};
 use named_inputs::{FileJobs, FileTexts};
+use pdf_command::PdfAsked;
 use picture_command::PictureAsked;
 use requests::{Form, PanelSetting, Status};
 use std::io::{Input, Print};
@@ -145,6 +147,42 @@ pub fn picture<R: Files + AllocGlobal, O: Outlet, E: Outlet>(
     texts.end(used);
     used.read(first);
     used.read(second);
+    status
+}
+
+/// Writes pages of the job at a path as a PDF document, in the place of the file at another, from a
+/// panel setting of a printer.
+pub fn pdf<R: Files + Print + AllocGlobal, O: Outlet, E: Outlet>(
+    rt: &R,
+    asked: &PdfAsked<'_>,
+    out: &str,
+    used: &mut FilesUsed,
+    stdout: &mut O,
+    stderr: &mut E,
+) -> Status
+    requires stdout { IsFalse (O.state stdout.old).failed }
+    requires stderr { IsFalse (E.state stderr.old).failed }
+    ensures { LeavesPdfAt asked.now.job.now out.now asked.now.setting.profile.now
+        asked.now.setting.choices.now asked.now.selection asked.now.is_proof result
+        used.old used.new
+        (O.state stdout.old) (O.state stdout.new) (E.state stderr.old) (E.state stderr.new) }
+{
+    let mut source = SourceAt::new(rt, asked.job);
+    let mut texts = FileTexts::new(rt);
+    let mut outlet = OutletAt::new(rt, out);
+    let answer = pdf_command::pdf(
+        rt.alloc(),
+        &mut source.file,
+        &mut texts,
+        asked,
+        &mut outlet.file,
+        stdout,
+        stderr,
+    );
+    let status = end_out(answer, &mut outlet.file);
+    texts.end(used);
+    used.read(source);
+    used.written(outlet);
     status
 }
 

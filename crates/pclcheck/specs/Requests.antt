@@ -17,7 +17,7 @@ use Rattle.requests.specs.declared.status.Status.{Status}
 use Rattle.many_requests.specs.Checks.{LeavesChecks, asking}
 use Rattle.many_requests.specs.Comparisons.{LeavesComparison}
 use Rattle.file_requests.specs.JobRequests.{LeavesCheck, LeavesNotesFor, LeavesPagesFor, LeavesPictureFor, LeavesPin}
-use Rattle.file_requests.specs.JobRequests.{LeavesPlain, LeavesRendered, LeavesSurveyOf}
+use Rattle.file_requests.specs.JobRequests.{LeavesPdfAt, LeavesPlain, LeavesRendered, LeavesSurveyOf}
 use Rattle.file_requests.specs.ProfileRequests.{LeavesAnsweredFor, LeavesLintFor, LeavesSheetFor, LeavesShownFor}
 
 -- what these texts or the table of commands say of a code, or all of it; of a code that is unknown standard error tells
@@ -48,6 +48,8 @@ Fulfils texts (requests.Pages job profile) status used used' out out' err err' =
     LeavesPagesFor job.now profile.now status used used' out out' × (err' ≡ err)
 Fulfils texts (requests.Picture job profile choices selection) status used used' out out' err err' =
     LeavesPictureFor profile.now choices.items selection job.now status used used' out out' err err'
+Fulfils texts (requests.Pdf job profile choices selection is_proof file) status used used' out out' err err' =
+    LeavesPdfAt job.now file.now profile.now choices.items selection is_proof status used used' out out' err err'
 Fulfils texts (requests.Notes job profile) status used used' out out' err err' =
     LeavesNotesFor job.now profile.now status used used' out out' × (err' ≡ err)
 Fulfils texts (requests.Plain job file) status used used' out out' err err' =

@@ -3,11 +3,12 @@ ghost use Rattle.std.specs.Prelude.{IsFalse, map};
 ghost use Rattle.requests.specs.Words.{NamesSome};
 ghost use Rattle.pclcheck.specs.Requests.{Fulfils};
 
-use file_requests::job_texts::{check, list, notes, pages, picture, pin, plain, survey_files};
+use file_requests::job_texts::{check, list, notes, pages, pdf, picture, pin, plain, survey_files};
 use file_requests::profiles::{from_pjl, lint, sheet, show};
 use many_requests::{check_asked, compare_asked};
 use meanings::EXPLANATIONS;
 use meanings::explain::explain;
+use pdf_command::PdfAsked;
 use picture_command::PictureAsked;
 use profile_commands::list::profile_list;
 use profile_commands::new::profile_new;
@@ -56,6 +57,23 @@ pub fn fulfil<R: Files + Input + Print + AllocGlobal, O: Outlet, E: Outlet>(
                 selection: *selection,
             };
             picture(rt, &asked, used, stdout, stderr)
+        }
+        Request::Pdf {
+            job,
+            profile,
+            choices,
+            selection,
+            is_proof,
+            out,
+        } => {
+            let choices = choices.as_slice();
+            let asked = PdfAsked {
+                job,
+                setting: PanelSetting { profile, choices },
+                selection: *selection,
+                is_proof: *is_proof,
+            };
+            pdf(rt, &asked, out, used, stdout, stderr)
         }
         Request::Notes { job, profile } => notes(rt, job, profile, used, stdout),
         Request::Plain { job, out } => plain(rt, job, out, used, stdout),

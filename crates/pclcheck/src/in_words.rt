@@ -92,6 +92,7 @@ fn job_of<'a>(request: &Request<'a>) -> Option<&'a str> {
         Request::Pages { job, .. } => Some(*job),
         Request::Notes { job, .. } => Some(*job),
         Request::Picture { job, .. } => Some(*job),
+        Request::Pdf { job, .. } => Some(*job),
         Request::Plain { job, .. } => Some(*job),
         Request::Pin { job, .. } => Some(*job),
         _ => None,
@@ -104,6 +105,7 @@ fn profile_of<'a>(request: &Request<'a>) -> Option<&'a str> {
         Request::Pages { profile, .. } => Some(*profile),
         Request::Notes { profile, .. } => Some(*profile),
         Request::Picture { profile, .. } => Some(*profile),
+        Request::Pdf { profile, .. } => Some(*profile),
         Request::Pin { profile, .. } => Some(*profile),
         _ => None,
     }
@@ -113,6 +115,7 @@ fn profile_of<'a>(request: &Request<'a>) -> Option<&'a str> {
 fn out_of<'a>(request: &Request<'a>) -> Option<&'a str> {
     match request {
         Request::Plain { out, .. } => Some(*out),
+        Request::Pdf { out, .. } => Some(*out),
         Request::Pin { out, .. } => Some(*out),
         Request::ProfileSheet { out, .. } => Some(*out),
         _ => None,

@@ -7,3 +7,4 @@ mod page_search;
 mod same;
 
 pub use command::{PictureAsked, picture};
+pub use named_printer::{NamedPrinter, read_printer};

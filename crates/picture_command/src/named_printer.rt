@@ -14,13 +14,13 @@ use streams::Error;
 
 /// A printer, and the name by which sentences name it, alone in a list.
 #[derive(Drop)]
-pub(crate) struct NamedPrinter<A: Allocator> {
+pub struct NamedPrinter<A: Allocator> {
     pub profile: Profile<A>,
     pub names: Vec<Vec<u8, A>, A>,
 }
 
 /// The printer that a word names.
-pub(crate) fn read_printer<T: ProfileTexts, A: Allocator + Copy>(
+pub fn read_printer<T: ProfileTexts, A: Allocator + Copy>(
     alloc: A,
     texts: &mut T,
     word: &str,

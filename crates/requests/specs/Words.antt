@@ -1,7 +1,7 @@
 -- What each request keeps to.
 use Rattle.std.specs.Prelude.{◌≢◌, [], ◌++◌, ⊤}
 use Rattle.requests.specs.declared.request.Request.{Request}
-use Rattle.requests.specs.declared.request.Request.TheVariants.{Check, CheckMany, Compare, Plain, Pin}
+use Rattle.requests.specs.declared.request.Request.TheVariants.{Check, CheckMany, Compare, Pdf, Plain, Pin}
 use Rattle.requests.specs.declared.request.Request.TheVariants.{ProfileSheet}
 use Rattle.requests.specs.ManyWords.{NamesPrinter}
 
@@ -12,9 +12,10 @@ NamesSome (CheckMany many) = NamesPrinter many
 NamesSome (Compare words) = words.printers.items ++ words.fleets.items ≢ []
 NamesSome _ = ⊤
 
--- a text of a job, and a sheet, go to no path that is read
+-- a text or a document of a job, and a sheet, go to no path that is read
 abbrev pub KeepsWhatItReads : Request → Type 0
 KeepsWhatItReads (Plain job out) = job.now ≢ out.now
+KeepsWhatItReads (Pdf job profile choices selection is_proof out) = (job.now ≢ out.now) × (profile.now ≢ out.now)
 KeepsWhatItReads (Pin job profile choices out) = (job.now ≢ out.now) × (profile.now ≢ out.now)
 KeepsWhatItReads (ProfileSheet profile out) = profile.now ≢ out.now
 KeepsWhatItReads _ = ⊤

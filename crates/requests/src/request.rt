@@ -45,6 +45,16 @@ pub enum Request<'a> {
         choices: Vec<Choice>,
         selection: Selection,
     },
+    /// Pages of the job at a path as a PDF document in a file at a path, from the panel that is
+    /// chosen of the printer that a word names.
+    Pdf {
+        job: &'a str,
+        profile: &'a str,
+        choices: Vec<Choice>,
+        selection: Selection,
+        is_proof: bool,
+        out: &'a str,
+    },
     /// The items of the job at a path, each in its canonical spelling, in a file at a path.
     Plain {
         job: &'a str,

@@ -1,4 +1,4 @@
 mod JobNotes
-mod JobTexts
-mod JudgedFirst
-mod Leaves
+pub mod JobTexts
+pub mod JudgedFirst
+pub mod Leaves

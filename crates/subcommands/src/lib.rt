@@ -5,8 +5,8 @@
 pub mod check;
 pub mod job_notes;
 pub mod list;
-mod opening;
-mod outcome;
+pub mod opening;
+pub mod outcome;
 pub mod pages;
 pub mod pin;
 pub mod plain;

@@ -8,7 +8,7 @@ use streams::{Create, CreateError, Error, FileId, Open};
 
 /// Opens JOB and creates OUT, unless OUT is JOB or the file that the profile came from, if from
 /// one.
-pub(crate) fn open_and_create<S: Open, W: Create>(
+pub fn open_and_create<S: Open, W: Create>(
     job: &mut S,
     profile: Option<FileId>,
     out: &mut W,

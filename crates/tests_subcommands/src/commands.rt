@@ -2,7 +2,8 @@
 ghost use Rattle.std.specs.Prelude.{◌≡◌, false, IsFalse};
 
 use device_profile::Sample;
-use requests::{PanelSetting, Status, tell};
+use pdf_command::{PdfAsked, pdf};
+use requests::{DrawnPages, PanelSetting, Selection, Status, tell};
 use std::alloc::{Allocator, Global};
 use std::process::Abort;
 use streams::{Create, Open, Outlet, Source};
@@ -25,11 +26,29 @@ enum Command {
     Notes,
     Plain,
     Pin,
+    /// With the outlines and the foot of each page.
+    Pdf,
 }
 
 /// Texts of printers.
 fn texts() -> [Named<'static>; 2] {
     [("a", Sample::A.text()), ("b", Sample::B.text())]
+}
+
+/// All pages for sample B, each with its outlines and its foot.
+fn proof() -> PdfAsked<'static> {
+    PdfAsked {
+        job: "job.pcl",
+        setting: PanelSetting {
+            profile: "b",
+            choices: &[],
+        },
+        selection: Selection {
+            pages: DrawnPages::All,
+            has_boxes: false,
+        },
+        is_proof: true,
+    }
 }
 
 /// Runs a subcommand, and tells how it ended.
@@ -61,6 +80,7 @@ fn status_of<H: Allocator + Copy, J: Open, W: Create, O: Outlet, E: Outlet>(
             };
             pin(heap, job, &mut texts, &setting, out, stdout, stderr)
         }
+        Command::Pdf => pdf(heap, job, &mut texts, &proof(), out, stdout, stderr),
     };
     tell(status, stderr);
     status
@@ -235,6 +255,7 @@ const COMMANDS: &[Command] = &[
     Command::Notes,
     Command::Plain,
     Command::Pin,
+    Command::Pdf,
 ];
 
 /// How many requests for memory a subcommand makes, each of which was refused in turn: it then ends

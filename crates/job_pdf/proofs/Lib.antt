@@ -1,0 +1,4 @@
+mod Led
+mod Drawings
+mod Tellings
+mod Sheets

@@ -1,0 +1,7 @@
+use Rattle.std.proofs.Common.{◌≡◌, ◌++◌}
+use Rattle.std.specs.List.{flat_map, range_with_len}
+use Rattle.page_pdf.specs.Objects.{page_reference}
+use Rattle.page_pdf.proofs.objects.push_page_references.Given as goal
+
+abbrev pub invariant-loop-index : goal.invariant-loop-index
+invariant-loop-index g l = l.text.items ≡ l.initial.text.items ++ flat_map page_reference (range_with_len 0 l.index)

@@ -1,0 +1,13 @@
+pub mod MarkParts
+pub mod PageParts
+pub mod FixedObjects
+pub mod ObjectParts
+pub mod Figures
+pub mod Hexes
+pub mod Codes
+pub mod Marks
+pub mod Pages
+pub mod Maps
+pub mod Objects
+pub mod Table
+pub mod Document
