@@ -166,7 +166,7 @@ line_asks p q code = by (code == 13) (code == 10)
     by false false = refl
 
 -- where a machine is that printed lines
-pub printed_is : (codes : List ℕ) (look : TextAppearance) (place : TextPlace) (old new : MachineState) → PrintsLines look place codes old new →
+printed_is : (codes : List ℕ) (look : TextAppearance) (place : TextPlace) (old new : MachineState) → PrintsLines look place codes old new →
     new ≡ record old { page = page_behind_all look place codes old.page }
 printed_is [] look place old new h = h
 printed_is (code ∷ codes) look place old new h = printed_is codes look (behind look code place) (machine_behind look place code old) new h.2
@@ -263,7 +263,7 @@ fewer_have_room m zero codes place h = tt
 fewer_have_room m (suc k) [] place h = tt
 fewer_have_room m (suc k) (code ∷ codes) place h = (h.0, fewer_have_room m k codes (behind m.look code place) h.1)
 
-pub front_goes : (printer : Printer) (k : ℕ) (codes : List ℕ) (look : TextAppearance) (place : TextPlace) (page : Page) →
+front_goes : (printer : Printer) (k : ℕ) (codes : List ℕ) (look : TextAppearance) (place : TextPlace) (page : Page) →
     AllGo printer look place page codes → AllGo printer look place page (take k codes)
 front_goes printer zero codes look place page h = tt
 front_goes printer (suc k) [] look place page h = tt
