@@ -87,7 +87,7 @@ nothing_done look place (m ∷ old) [] h = absurd h
 nothing_done look place (m ∷ old) (n ∷ new) h = λ i. h.0 i ∷ nothing_done look place old new h.1 i
 
 -- lines of text leave mode PCL
-lines_follow : (code : ℕ) → follows modes.Pcl (line_item code) ≡ Some modes.Pcl
+pub lines_follow : (code : ℕ) → follows modes.Pcl (line_item code) ≡ Some modes.Pcl
 lines_follow code = by (code == 13) (code == 10)
   where
     by : (returns feeds : Bool) → follows modes.Pcl (cond returns CarriageReturn (cond feeds LineFeed (Text code))) ≡ Some modes.Pcl
@@ -95,7 +95,7 @@ lines_follow code = by (code == 13) (code == 10)
     by false true = refl
     by false false = refl
 
-line_mode : (mode : Mode) (code : ℕ) → mode ≡ modes.Pcl → unwrap_or (follows mode (line_item code)) mode ≡ mode
+pub line_mode : (mode : Mode) (code : ℕ) → mode ≡ modes.Pcl → unwrap_or (follows mode (line_item code)) mode ≡ mode
 line_mode mode code e =
     subst (λ m. unwrap_or (follows m (line_item code)) m ≡ m) (sym e) (ap (λ o. unwrap_or o modes.Pcl) (lines_follow code))
 
