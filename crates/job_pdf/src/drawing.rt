@@ -17,14 +17,14 @@ use streams::{Error, Outlet, write_enough};
 
 /// Writes marks and ends of pages on the sheet of the page that is open.
 #[derive(Drop)]
-struct DocumentText<'t, W: Outlet, A: Allocator, B: Allocator + Copy> {
-    outlet: &'t mut W,
-    kept: &'t mut Vec<u8, A>,
-    document: &'t mut Document<B>,
+struct DocumentText<'o, 'k, 'd, W: Outlet, A: Allocator, B: Allocator + Copy> {
+    outlet: &'o mut W,
+    kept: &'k mut Vec<u8, A>,
+    document: &'d mut Document<B>,
     sheet: Sheet,
 }
 
-impl<W: Outlet, A: Allocator, B: Allocator + Copy> DocumentText<'_, W, A, B> {
+impl<W: Outlet, A: Allocator, B: Allocator + Copy> DocumentText<'_, '_, '_, W, A, B> {
     /// Writes the text that is kept, where there is enough of it.
     fn write_enough(&mut self) -> Result<(), Error>
         ensures text { PutsKept (W.state self.old.outlet.now) (W.state self.new.outlet.now)
@@ -43,7 +43,7 @@ impl<W: Outlet, A: Allocator, B: Allocator + Copy> DocumentText<'_, W, A, B> {
     }
 }
 
-impl<W: Outlet, A: Allocator, B: Allocator + Copy> MarkSink for DocumentText<'_, W, A, B> {
+impl<W: Outlet, A: Allocator, B: Allocator + Copy> MarkSink for DocumentText<'_, '_, '_, W, A, B> {
     type Fault = Error;
 
     ghost takes = { TakesPart W.state };
