@@ -7,3 +7,4 @@ pub mod Running
 pub mod Sameness
 pub mod SoFar
 pub mod Steps
+pub mod Texts

@@ -5,7 +5,7 @@ use Rattle.comparison.specs.Comparing.{ItemCompares, StepCompares}
 use Rattle.comparison.specs.Comparison.{made_at}
 use Rattle.comparison.proofs.Ends.{errors_of_new, on_ok_always, read_no_old}
 use Rattle.comparison.proofs.SoFar.{made_last, step_compares}
-use Rattle.comparison.proofs.compare.compare_step.Goals as goal
+use Rattle.comparison.proofs.compare.compare_next.Goals as goal
 
 pub returns-in-Ok-clause-compared : goal.returns-in-Ok-clause-compared
 returns-in-Ok-clause-compared g c =
