@@ -127,8 +127,9 @@ printed_is (code ∷ codes) look from machine machine' prints =
 
 -- ---- a job that carried them out
 
-module _ (old : RunState) (lexer : LexerState) (machine : MachineState) (events : List Event) (lines : TextLines) (look : TextAppearance) (from : TextPlace)
-    (next : GoNext look from lines old) (reads : ReadsLines old.lexer (codes_ahead lines old) lexer)
+module _ (old : RunState) (lexer : LexerState) (machine : MachineState) (events : List Event) (lines : TextLines)
+    (look : TextAppearance) (from : TextPlace) (next : GoNext look from lines old)
+    (reads : ReadsLines old.lexer (codes_ahead lines old) lexer)
     (prints : PrintsLines look from (codes_ahead lines old) old.machine machine) (running : is_open old.progress ≡ true)
     (not_stopped : old.machine.stopped ≡ false) (mode : old.machine.mode ≡ mode_of old.lexer.context) where
   abbrev pub passed_run : RunState

@@ -164,8 +164,8 @@ fn compare_events<S: Source, T: Source, A: Allocator + Copy, P: Allocator>(
     compare_ends(first, new_job, second, spot)
 }
 
-/// Takes the next step of OLD, and compares what it makes with what comes of NEW. Lines of text that
-/// print the same are one step.
+/// Takes the next step of OLD, and compares what it makes with what comes of NEW. Lines of text
+/// that print the same are one step.
 fn compare_step<S: Source, T: Source, A: Allocator + Copy, P: Allocator>(
     old_job: &mut S,
     first: &mut RunningJob<'_, A, P>,
