@@ -50,7 +50,10 @@ fn same_lines<A: Allocator + Copy, P: Allocator>(
 ) -> Option<TextLines>
     ensures { IfSome result (λ lines. GoInBoth lines first.now second.now) }
 {
-    if !first.has_text_next() || !second.lacks_next() {
+    if !first.has_text_next() {
+        return None;
+    }
+    if !second.lacks_next() {
         return None;
     }
     let other = second.job();
@@ -59,24 +62,24 @@ fn same_lines<A: Allocator + Copy, P: Allocator>(
     if at != from {
         return None;
     }
-    lines_of_both(&measure, &own, from, first.ahead(), other.ahead())
+    lines_of_both(&measure, &own, &from, first.ahead(), other.ahead())
 }
 
 /// The first bytes of both that are the same, and go from a place by both measures with one look.
 fn lines_of_both<P: Allocator>(
     one: &TextMeasure<'_, P>,
     other: &TextMeasure<'_, P>,
-    from: TextPlace,
+    from: &TextPlace,
     bytes: &[u8],
     others: &[u8],
 ) -> Option<TextLines>
-    ensures { IfSome result (λ lines. AreLinesOfBoth one.now other.now from
+    ensures { IfSome result (λ lines. AreLinesOfBoth one.now other.now from.now
         bytes.now others.now lines) }
 {
-    let most = one.lines_ahead(from, bytes);
+    let most = one.lines_ahead(*from, bytes);
     let same = same_count(&bytes[..most.count], others);
-    let count = other.alike(one, from, &bytes[..same])?;
-    let lines = lines_up_to(one, from, bytes, most, count);
+    let count = other.alike(one, *from, &bytes[..same])?;
+    let lines = lines_up_to(one, from, bytes, &most, count);
     if lines.count == 0 {
         return None;
     }
@@ -86,20 +89,20 @@ fn lines_of_both<P: Allocator>(
 /// The lines of so many of the first bytes, of which more go.
 fn lines_up_to<P: Allocator>(
     measure: &TextMeasure<'_, P>,
-    from: TextPlace,
+    from: &TextPlace,
     bytes: &[u8],
-    most: TextLines,
+    most: &TextLines,
     count: usize,
 ) -> TextLines
-    requires lines { AreLinesFrom measure.now from bytes.now most }
-    requires few { count ≤ most.count }
-    ensures lines { AreLinesFrom measure.now from bytes.now result }
+    requires lines { AreLinesFrom measure.now from.now bytes.now most.now }
+    requires few { count ≤ most.now.count }
+    ensures lines { AreLinesFrom measure.now from.now bytes.now result }
     ensures few { result.count ≤ count }
 {
     if count == most.count {
-        return most;
+        return *most;
     }
-    measure.lines_ahead(from, &bytes[..count])
+    measure.lines_ahead(*from, &bytes[..count])
 }
 
 /// How many of the first bytes are the same.

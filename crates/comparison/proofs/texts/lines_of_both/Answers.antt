@@ -2,8 +2,8 @@ use Rattle.std.proofs.Common.{◌≡◌, ◌<◌, ◌≤◌, ap, arith, length, 
 use Rattle.std.proofs.lemmas.List.{length-take-le, take-take}
 use Rattle.page_env.specs.TextLines.{glyph_count, place_behind}
 use Rattle.page_env.specs.TextMeasure.{AllHaveRoom}
-use Rattle.preflight.proofs.TextInStep.{fewer_have_room}
-use Rattle.comparison.proofs.Texts.{front_is_same}
+use Rattle.comparison.proofs.TextBytes.{fewer_have_room}
+use Rattle.comparison.proofs.SameLines.{front_is_same}
 use Rattle.comparison.proofs.texts.lines_of_both.Goals as goal
 
 pub alike-requires : goal.alike-requires
@@ -12,8 +12,8 @@ alike-requires g c =
     let most = c.lines_ahead-most.result.count in
     let same = c.same_count-same.result in
     let few : same ≤ most = omega (arith, c.same_count-same.ensures.one, length-take-le most bytes c.lines_ahead-most.ensures.short) in
-    subst (AllHaveRoom c.args.one.now c.args.from) (take-take same most bytes few)
-    (fewer_have_room c.args.one.now same (take most bytes) c.args.from c.lines_ahead-most.ensures.room)
+    subst (AllHaveRoom c.args.one.now c.args.from.now) (take-take same most bytes few)
+    (fewer_have_room c.args.one.now same (take most bytes) c.args.from.now c.lines_ahead-most.ensures.room)
 
 pub lines_up_to-lines-requires-clause-few : goal.lines_up_to-lines-requires-clause-few
 lines_up_to-lines-requires-clause-few g c =
@@ -23,12 +23,12 @@ lines_up_to-lines-requires-clause-few g c =
     let few : same ≤ most = omega (arith, c.same_count-same.ensures.one, length-take-le most bytes c.lines_ahead-most.ensures.short) in
     omega (arith, few, c.in_ok-count.ensures.short, length-take-le same bytes (omega (arith, few, c.lines_ahead-most.ensures.short)))
 
-pub returns-2 : goal.returns-2
-returns-2 g c =
+pub returns : goal.returns
+returns g c =
     let bytes = c.args.bytes.now in
     let others = c.args.others.now in
     let other = c.args.other.now in
-    let from = c.args.from in
+    let from = c.args.from.now in
     let most = c.lines_ahead-most.result.count in
     let same = c.same_count-same.result in
     let count = c.in_ok-count.count in
@@ -43,7 +43,7 @@ returns-2 g c =
     let own : take n (take count (take same bytes)) ≡ take n bytes =
     ap (take n) (take-take count same bytes fewer) ∙ take-take n count bytes c.lines_up_to-lines.ensures.few in
     let first = c.lines_up_to-lines.ensures.lines in record {
-      some = omega (arith, c.if-eq.false, c.eq.ensures);
+      some = omega (arith, c.if-lines-eq0.false);
       look = c.in_ok-count.ensures.look;
       same = is;
       first = first;

@@ -1,15 +1,15 @@
 use Rattle.std.proofs.Common.{◌≤◌, arith}
 use Rattle.std.proofs.lemmas.List.{length-take-le}
-use Rattle.preflight.proofs.TextInStep.{lines_of_more}
+use Rattle.comparison.proofs.TextBytes.{lines_of_more}
 use Rattle.comparison.proofs.texts.lines_up_to.Goals as goal
 
-pub returns-2-clause-lines : goal.returns-2-clause-lines
-returns-2-clause-lines g c =
-    lines_of_more c.args.measure.now c.args.from c.args.bytes.now c.args.count c.lines_ahead.result c.lines_ahead.ensures
+pub returns-clause-lines : goal.returns-clause-lines
+returns-clause-lines g c =
+    lines_of_more c.args.measure.now c.args.from.now c.args.bytes.now c.args.count c.lines_ahead.result c.lines_ahead.ensures
     (omega (arith, c.requires.few, c.requires.lines.short))
 
-pub returns-2-clause-few : goal.returns-2-clause-few
-returns-2-clause-few g c =
+pub returns-clause-few : goal.returns-clause-few
+returns-clause-few g c =
     omega (
       arith,
       c.lines_ahead.ensures.short,

@@ -1,18 +1,18 @@
 use Rattle.std.proofs.Common.{◌∙◌}
-use Rattle.comparison.proofs.Texts.{lines_compare}
+use Rattle.comparison.proofs.SameLines.{lines_compare}
 use Rattle.comparison.proofs.texts.pass_same_lines.Goals as goal
 
 pub pass_lines-requires-clause-next : goal.pass_lines-requires-clause-next
 pass_lines-requires-clause-next g c = let both = c.in-Some.ensures in (both.look, both.from, both.old_next)
 
-pub pass_lines-2-requires-clause-running : goal.pass_lines-2-requires-clause-running
-pass_lines-2-requires-clause-running g c = c.in-Some.ensures.running
+pub pass_lines-requires-2-clause-running : goal.pass_lines-requires-2-clause-running
+pass_lines-requires-2-clause-running g c = c.in-Some.ensures.running
 
-pub pass_lines-2-requires-clause-level : goal.pass_lines-2-requires-clause-level
-pass_lines-2-requires-clause-level g c = c.in-Some.ensures.level
+pub pass_lines-requires-2-clause-level : goal.pass_lines-requires-2-clause-level
+pass_lines-requires-2-clause-level g c = c.in-Some.ensures.level
 
-pub pass_lines-2-requires-clause-next : goal.pass_lines-2-requires-clause-next
-pass_lines-2-requires-clause-next g c = let both = c.in-Some.ensures in (both.look, both.from, both.new_next)
+pub pass_lines-requires-2-clause-next : goal.pass_lines-requires-2-clause-next
+pass_lines-requires-2-clause-next g c = let both = c.in-Some.ensures in (both.look, both.from, both.new_next)
 
 pub returns-clause-compared : goal.returns-clause-compared
 returns-clause-compared g c = λ _.

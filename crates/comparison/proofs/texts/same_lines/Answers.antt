@@ -1,18 +1,18 @@
 use Rattle.std.proofs.Common.{◌≡◌, refl, subst, sym, ◌∙◌}
 use Rattle.std.proofs.lemmas.Option.{IfSome_then}
-use Rattle.preflight.proofs.TextInStep.{same_place}
+use Rattle.comparison.proofs.TextBytes.{same_place}
 use Rattle.comparison.specs.Texts.{AreLinesOfBoth, GoNext}
 use Rattle.comparison.proofs.Following.{lacks_tells}
-use Rattle.comparison.proofs.Texts.{go_next}
+use Rattle.comparison.proofs.SameLines.{go_next}
 use Rattle.comparison.proofs.texts.same_lines.Goals as goal
 
-pub returns-3 : goal.returns-3
-returns-3 g c =
+pub returns : goal.returns
+returns g c =
     IfSome_then c.lines_of_both.result c.lines_of_both.ensures
     (λ lines both.
     let old = c.args.first.now in
     let new = c.args.second.now in
-    let tells = lacks_tells new c.lacks_next.true in record {
+    let tells = lacks_tells new (sym c.lacks_next.ensures ∙ c.if-not-lacks_next.false) in record {
       look = c.in_ok-measure.measure.look;
       from = c.in_ok-measure.from;
       old_next =

@@ -1,6 +1,6 @@
 use Rattle.std.proofs.Common.{◌≡◌, ◌+◌, ◌^◌, ◌<◌, ◌∙◌, length, sym, arith}
 use Rattle.sinks.specs.Counts.{capped}
-use Rattle.comparison.proofs.Texts.{spot_marked}
+use Rattle.comparison.proofs.SameLines.{spot_marked}
 use Rattle.comparison.proofs.difference.Spot.count_marks.Goals as goal
 
 pub returns : goal.returns

@@ -2,7 +2,7 @@ use Rattle.std.proofs.Common.{ap, subst, sym, ◌∙◌}
 use Rattle.comparison.specs.Comparing.{Following}
 use Rattle.comparison.specs.Running.{is_open}
 use Rattle.comparison.specs.Texts.{GoNext}
-use Rattle.comparison.proofs.Texts.{lines_followed}
+use Rattle.comparison.proofs.SameLines.{lines_followed}
 use Rattle.comparison.proofs.follower.Follower.pass_lines.Goals as goal
 
 pub pass_lines-requires-clause-running : goal.pass_lines-requires-clause-running

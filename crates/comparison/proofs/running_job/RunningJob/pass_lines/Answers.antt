@@ -1,44 +1,33 @@
-use Rattle.std.proofs.Common.{◌≡◌, ◌<◌, ◌++◌, true, ap, subst, sym, ◌∙◌}
+use Rattle.std.proofs.Common.{◌≡◌, ◌<◌, ◌++◌, true, ap, subst, sym, take, ◌∙◌}
+use Rattle.pcl_lexer.specs.Lexing.Passing.{ahead_of}
 use Rattle.page_env.specs.declared.text_lines.TextAppearance.{TextAppearance}
 use Rattle.page_env.specs.declared.text_lines.TextLines.{TextLines}
 use Rattle.page_env.specs.declared.text_lines.TextPlace.{TextPlace}
 use Rattle.page_machine.specs.TextLines.{PrintsLines}
-use Rattle.preflight.proofs.TextInStep.{lines_of}
+use Rattle.comparison.proofs.TextBytes.{lines_of}
 use Rattle.sinks.specs.Recorder.{Recorded}
 use Rattle.comparison.specs.Running.{HasRun, RunState, is_open, work}
 use Rattle.comparison.specs.Texts.{GoNext, codes_ahead, text_made}
-use Rattle.comparison.proofs.Texts.{lines_ready, lines_run, lines_take_work, passed_run}
+use Rattle.comparison.proofs.SameLines.{lines_ready, lines_run, lines_take_work, passed_run}
 use Rattle.comparison.proofs.running_job.RunningJob.pass_lines.Given.{Over}
-use Rattle.comparison.proofs.running_job.RunningJob.pass_lines.Goals.{After-pass_lines, After-pass_lines-2}
+use Rattle.comparison.proofs.running_job.RunningJob.pass_lines.Goals.{After-pass_lines-2}
 use Rattle.comparison.proofs.running_job.RunningJob.pass_lines.Goals as goal
 
--- before the lexer passes them
-module _ (g : Over) (c : After-pass_lines g) where
-  abbrev fields : RunState
-  fields = record {
-    lexer = c.self.inside.lexer;
-    machine = c.self.inside.machine;
-    events = c.self.inside.recorder.events;
-    place = c.self.inside.place;
-    total = c.self.inside.total;
-    reads = c.self.inside.reads;
-    number = c.self.inside.number;
-    progress = c.self.inside.progress;
-  }
+pub pass_lines-requires-2-clause-some : goal.pass_lines-requires-2-clause-some
+pass_lines-requires-2-clause-some g c =
+    (subst (GoNext c.requires.next.0 c.requires.next.1 c.args.lines.now) (sym c.self.view_is) c.requires.next.2).some
 
-  next : GoNext c.requires.next.0 c.requires.next.1 c.args.lines.now fields
-  next = subst (GoNext c.requires.next.0 c.requires.next.1 c.args.lines.now) (sym c.self.view_is) c.requires.next.2
+pub pass_lines-requires-2-clause-ahead : goal.pass_lines-requires-2-clause-ahead
+pass_lines-requires-2-clause-ahead g c =
+    (subst (GoNext c.requires.next.0 c.requires.next.1 c.args.lines.now) (sym c.self.view_is) c.requires.next.2).ahead
 
-pub pass_lines-2-requires-clause-some : goal.pass_lines-2-requires-clause-some
-pass_lines-2-requires-clause-some g c = (next g c).some
-
-pub pass_lines-2-requires-clause-ahead : goal.pass_lines-2-requires-clause-ahead
-pass_lines-2-requires-clause-ahead g c = (next g c).ahead
-
-pub pass_lines-2-requires-clause-lines : goal.pass_lines-2-requires-clause-lines
-pass_lines-2-requires-clause-lines g c =
-    lines_of c.self.inside.machine.printer (codes_ahead c.args.lines.now (fields g c)) c.requires.next.0 c.requires.next.1
-    c.self.inside.machine.page (next g c).go.go
+pub pass_lines-requires-2-clause-lines : goal.pass_lines-requires-2-clause-lines
+pass_lines-requires-2-clause-lines g c =
+    let l = c.self.inside in
+    let look = c.requires.next.0 in
+    let from = c.requires.next.1 in
+    let next = subst (GoNext look from c.args.lines.now) (sym c.self.view_is) c.requires.next.2 in
+    lines_of l.machine.printer (take c.args.lines.now.count (ahead_of l.lexer)) look from l.machine.page next.go.go
 
 -- behind both
 module _ (g : Over) (c : After-pass_lines-2 g) where

@@ -26,7 +26,7 @@ use Rattle.page_machine.specs.Machine.{item_of}
 use Rattle.page_machine.specs.MachineState.{MachineState}
 use Rattle.page_machine.specs.Run.{peaks_of}
 use Rattle.page_machine.specs.TextLines.{IsMeasuredAt, PrintsLines, glyph_events, machine_behind}
-use Rattle.preflight.proofs.TextInStep.{fewer_have_room, line_mode, lines_follow, lines_less, shape_count, shapes_of}
+use Rattle.comparison.proofs.TextBytes.{fewer_have_room, line_mode, lines_follow, lines_less, shape_count, shapes_of}
 use Rattle.sinks.specs.declared.counts.Counts.{Counts}
 use Rattle.sinks.specs.Counts.{capped, counted, counts_after}
 use Rattle.streams.specs.Source.{SourceState}
@@ -35,7 +35,7 @@ use Rattle.comparison.specs.declared.difference.Spot.{Spot}
 use Rattle.comparison.specs.declared.stepping.Stepped.TheVariants.{On}
 use Rattle.comparison.specs.Comparison.{Made, all_made, at_start, behind_event, failure_on, made_at}
 use Rattle.comparison.specs.Comparing.{Following, FollowsOn, HasFollowed, StepCompares, events_made, spot_behind, still_made}
-use Rattle.comparison.specs.Running.{CarriedTo, Gave, HasRun, RunState, is_open, last_step, rest_items, work}
+use Rattle.comparison.specs.Running.{CarriedTo, Gave, HasRun, RunState, any_panel, is_open, last_step, rest_items, work}
 use Rattle.comparison.specs.Running.{behind as behind_items}
 use Rattle.comparison.specs.Texts.{AreLinesOfBoth, FollowsLines, GoInBoth, GoNext, PassesLines, codes_ahead, text_events, text_made}
 use Rattle.comparison.proofs.Carried.{item_carried}
@@ -91,8 +91,8 @@ module _ (printer : Printer) (panel : Panel) (number : ℕ) where
       } in
       let admitted : follows machine.mode (line_item code) ≡ Some Pcl =
       subst (λ m. follows m (line_item code) ≡ Some Pcl) (sym in_pcl) (lines_follow code) in
-      item_carried number machine (at place (line_item code)) mid (glyph_events look from code) (peaks_of (state_at _ mid.page)) Pcl is
-      admitted (prints.0 _)
+      item_carried number machine (at place (line_item code)) mid (glyph_events look from code) (peaks_of (state_at any_panel mid.page)) Pcl
+      is admitted (prints.0 any_panel)
 
   pub lines_make : (codes : List ℕ) (look : TextAppearance) (from : TextPlace) (place : ℕ) (items : List Placed) (made : List Made)
       (machine machine' : MachineState) → machine.mode ≡ Pcl → machine.stopped ≡ false →
@@ -111,7 +111,7 @@ module _ (printer : Printer) (panel : Panel) (number : ℕ) where
       lines_make codes look next (place + 1) (items ++ x ∷ []) (made ++ first) mid machine' in_pcl running prints.2
       (makes_on items made machine mid x (glyph_events look from code)
       (byte_carried look from place code codes machine machine' in_pcl running prints) h) in
-      subst (λ xs. Makes printer panel number xs (made ++ first ++ text_made look next (place + 1) codes) machine')
+      subst (λ xs. Makes printer panel number xs (made ++ (first ++ text_made look next (place + 1) codes)) machine')
       (append_assoc items (x ∷ []) (line_items (place + 1) codes))
       (subst
       (λ ms. Makes printer panel number ((items ++ x ∷ []) ++ line_items (place + 1) codes) ms machine')
@@ -126,6 +126,9 @@ printed_is (code ∷ codes) look from machine machine' prints =
     printed_is codes look (behind look code from) (machine_behind look from code machine) machine' prints.2
 
 -- ---- a job that carried them out
+
+less_left : (a b c d : ℕ) → b < c → a + b + d < a + c + d
+less_left a b c d h = omega (arith, h)
 
 module _ (old : RunState) (lexer : LexerState) (machine : MachineState) (events : List Event) (lines : TextLines)
     (look : TextAppearance) (from : TextPlace) (next : GoNext look from lines old)
@@ -176,7 +179,8 @@ module _ (old : RunState) (lexer : LexerState) (machine : MachineState) (events 
       let count : length (codes_ahead lines old) ≡ lines.count = length-take-le lines.count (ahead_of old.lexer) next.ahead in
       let less : left lexer.context lexer.rest < left old.lexer.context old.lexer.rest =
       lines_less (codes_ahead lines old) old.lexer lexer reads (omega (arith, count, next.some)) in
-      omega (arith, less)
+      less_left (last_step old.progress) (left lexer.context lexer.rest) (left old.lexer.context old.lexer.rest)
+      (8194 * (2 ^ 40 - old.reads)) less
 
   -- it may take a step
   pub lines_ready : (old.lexer.place + length old.lexer.rest ≡ old.total) → (old.total ≤ 4096 * old.reads) → (old.reads ≤ 2 ^ 40) →
@@ -320,13 +324,3 @@ step_behind old_now old_now' new_now new_mid new_now' old old' spot spot' new mi
       old_run = alike.old_run;
       level = level_came printer panel new_first new_now new_mid spot alike.old_made new mid goes alike.level;
     })
-
--- from where neither moved
-pub step_from : (old_now old_now' new_now new_now' : SourceState) (before before' old' : RunState) (spot mid spot' : Spot)
-    (new new_mid new' : Following) → before' ≡ before → mid ≡ spot → new_mid ≡ new → (found : Option Difference) →
-    StepCompares old_now old_now' new_now new_now' before' old' mid spot' new_mid new' found →
-    StepCompares old_now old_now' new_now new_now' before old' spot spot' new new' found
-step_from old_now old_now' new_now new_now' before before' old' spot mid spot' new new_mid new' old_is spot_is new_is found compares =
-    subst (λ s. StepCompares old_now old_now' new_now new_now' before old' s spot' new new' found) spot_is
-    (subst (λ n. StepCompares old_now old_now' new_now new_now' before old' mid spot' n new' found) new_is
-    (subst (λ o. StepCompares old_now old_now' new_now new_now' o old' mid spot' new_mid new' found) old_is compares))
