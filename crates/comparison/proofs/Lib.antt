@@ -7,3 +7,5 @@ pub mod Running
 pub mod Sameness
 pub mod SoFar
 pub mod Steps
+pub mod TextBytes
+pub mod SameLines

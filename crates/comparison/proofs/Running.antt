@@ -28,7 +28,7 @@ use Rattle.comparison.proofs.Steps.{still_under_way, under_way_at_start}
 
 -- ---- a job that is not over
 
-under_way : (progress : Progress) (printer : Printer) (panel : Panel) (bytes : List ℕ) (made : List Made) (run : RunState) →
+pub under_way : (progress : Progress) (printer : Printer) (panel : Panel) (bytes : List ℕ) (made : List Made) (run : RunState) →
     is_open progress ≡ true → StandsBy progress printer panel bytes made run →
     IsUnderWay printer panel run.number bytes made run.lexer run.machine
 under_way Open printer panel bytes made run e h = h
@@ -36,7 +36,7 @@ under_way Ended printer panel bytes made run e h = absurd (false≢true e)
 under_way (Fails failure) printer panel bytes made run e h = absurd (false≢true e)
 under_way OutOfMemory printer panel bytes made run e h = absurd (false≢true e)
 
-stands_open : (progress : Progress) (printer : Printer) (panel : Panel) (bytes : List ℕ) (made : List Made) (run : RunState) →
+pub stands_open : (progress : Progress) (printer : Printer) (panel : Panel) (bytes : List ℕ) (made : List Made) (run : RunState) →
     is_open progress ≡ true → IsUnderWay printer panel run.number bytes made run.lexer run.machine →
     StandsBy progress printer panel bytes made run
 stands_open Open printer panel bytes made run e h = h

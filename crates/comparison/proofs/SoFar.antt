@@ -36,7 +36,7 @@ compared_behind spot old_end new_end (a ∷ old) (b ∷ new) old_more new_more e
     (event_same a.event b.event first)
     ∙ compared_behind next old_end new_end old new old_more new_more rest
 
-spot_behind-append : (events more : List Event) (spot : Spot) →
+pub spot_behind-append : (events more : List Event) (spot : Spot) →
     spot_behind (events ++ more) spot ≡ spot_behind more (spot_behind events spot)
 spot_behind-append [] more spot = refl
 spot_behind-append (event ∷ events) more spot = spot_behind-append events more (behind_event event spot)

@@ -31,7 +31,7 @@ use Rattle.comparison.proofs.Carried.{rest_at_start}
 
 -- ---- readings by their first items
 
-behind_more : (xs : List Placed) (x : Placed) (r : Reading) → behind (xs ++ x ∷ []) r ≡ behind xs (with_item x r)
+pub behind_more : (xs : List Placed) (x : Placed) (r : Reading) → behind (xs ++ x ∷ []) r ≡ behind xs (with_item x r)
 behind_more xs x (Whole items place) = ap (λ l. Whole l place) (append_assoc xs (x ∷ []) items)
 behind_more xs x (Stopped items place cause) = ap (λ l. Stopped l place cause) (append_assoc xs (x ∷ []) items)
 

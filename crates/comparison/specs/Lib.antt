@@ -4,3 +4,4 @@ pub mod Running
 pub mod Comparing
 pub mod Laws
 pub mod Nearness
+pub mod Texts

@@ -13,6 +13,7 @@ ghost use Rattle.streams.specs.Pieces.{ByReads};
 use crate::difference::{Comparison, Difference, Spot};
 use crate::follower::Follower;
 use crate::running_job::RunningJob;
+use crate::texts::pass_same_lines;
 use device_profile::Profile;
 use pcl_items::Place;
 use pcl_lexer::one_reading;
@@ -163,8 +164,87 @@ fn compare_events<S: Source, T: Source, A: Allocator + Copy, P: Allocator>(
     compare_ends(first, new_job, second, spot)
 }
 
-/// Takes the next step of OLD, and compares what it makes with what comes of NEW.
+/// Takes the next step of OLD, and compares what it makes with what comes of NEW. Lines of text
+/// that print the same are one step.
 fn compare_step<S: Source, T: Source, A: Allocator + Copy, P: Allocator>(
+    old_job: &mut S,
+    first: &mut RunningJob<'_, A, P>,
+    new_job: &mut T,
+    second: &mut Follower<'_, A, P>,
+    spot: &mut Spot,
+) -> Result<Option<Difference>, Unread>
+    requires old_job { IsFalse (S.state old_job.old).failed }
+    requires new_job { IsFalse (T.state new_job.old).failed }
+    requires running { is_open first.old.progress ≡ true }
+    ensures compared { IfOk result (λ found. StepCompares
+        (S.state old_job.old) (S.state old_job.new) (T.state new_job.old) (T.state new_job.new)
+        first.old first.new spot.old spot.new second.old second.new found) }
+    ensures less { OnOk result (work first.new < work first.old) }
+    ensures old_number { first.new.number ≡ first.old.number }
+    ensures new_number { second.new.run.number ≡ second.old.run.number }
+    ensures old_read { (S.state old_job.new).failed ≡ is_unread Which.Old result }
+    ensures new_read { (T.state new_job.new).failed ≡ is_unread Which.New result }
+    ensures err { IfErr result (λ unread. IsErrorOfJob unread.error) }
+{
+    come_to_text(first, new_job, second)?;
+    compare_here(old_job, first, new_job, second, spot)
+}
+
+/// Does so where NEW has come to the text that OLD has next.
+fn compare_here<S: Source, T: Source, A: Allocator + Copy, P: Allocator>(
+    old_job: &mut S,
+    first: &mut RunningJob<'_, A, P>,
+    new_job: &mut T,
+    second: &mut Follower<'_, A, P>,
+    spot: &mut Spot,
+) -> Result<Option<Difference>, Unread>
+    requires old_job { IsFalse (S.state old_job.old).failed }
+    requires new_job { IsFalse (T.state new_job.old).failed }
+    requires running { is_open first.old.progress ≡ true }
+    ensures compared { IfOk result (λ found. StepCompares
+        (S.state old_job.old) (S.state old_job.new) (T.state new_job.old) (T.state new_job.new)
+        first.old first.new spot.old spot.new second.old second.new found) }
+    ensures less { OnOk result (work first.new < work first.old) }
+    ensures old_number { first.new.number ≡ first.old.number }
+    ensures new_number { second.new.run.number ≡ second.old.run.number }
+    ensures old_read { (S.state old_job.new).failed ≡ is_unread Which.Old result }
+    ensures new_read { (T.state new_job.new).failed ≡ is_unread Which.New result }
+    ensures err { IfErr result (λ unread. IsErrorOfJob unread.error) }
+{
+    if pass_same_lines(first, second, spot) {
+        return Ok(None);
+    }
+    compare_next(old_job, first, new_job, second, spot)
+}
+
+/// Goes on with NEW to the text that OLD has next, where nothing that NEW made is left to compare.
+fn come_to_text<T: Source, A: Allocator + Copy, P: Allocator>(
+    first: &RunningJob<'_, A, P>,
+    new_job: &mut T,
+    second: &mut Follower<'_, A, P>,
+) -> Result<(), Unread>
+    requires { IsFalse (T.state new_job.old).failed }
+    ensures run { OnOk result (FollowsOn (T.state new_job.old) (T.state new_job.new)
+        second.old second.new) }
+    ensures number { second.new.run.number ≡ second.old.run.number }
+    ensures read { (T.state new_job.new).failed ≡ is_unread Which.New result }
+    ensures err { IfErr result (λ unread. (unread.which ≡ Which.New)
+        × IsErrorOfJob unread.error) }
+{
+    if !first.has_text_next() {
+        return Ok(());
+    }
+    match second.come_to_text(new_job) {
+        Ok(()) => Ok(()),
+        Err(error) => Err(Unread {
+            which: Which::New,
+            error,
+        }),
+    }
+}
+
+/// Takes the next step of OLD, and compares what it makes with what comes of NEW.
+fn compare_next<S: Source, T: Source, A: Allocator + Copy, P: Allocator>(
     old_job: &mut S,
     first: &mut RunningJob<'_, A, P>,
     new_job: &mut T,

@@ -1,6 +1,9 @@
 //! What comes of two jobs, and where they first differ.
 
-ghost use Rattle.std.specs.Prelude.{◌≡◌};
+ghost use Rattle.std.specs.Prelude.{◌≡◌, List, length, map};
+ghost use Rattle.page_env.specs.Mark.{Shape};
+ghost use Rattle.page_machine.specs.Event.{Marked};
+ghost use Rattle.comparison.specs.Comparing.{spot_behind};
 ghost use Rattle.comparison.specs.Comparison.{at_start, behind_event, difference_at};
 ghost use Rattle.sinks.specs.Owned.{event_of};
 
@@ -85,6 +88,15 @@ impl Spot {
                 self.on_page = 0;
             }
         }
+    }
+
+    /// Counts so many marks that both jobs made.
+    pub(crate) fn count_marks(&mut self, marks: u64)
+        ensures { (shapes : List Shape) → length shapes ≡ marks →
+            self.new ≡ spot_behind (map Marked shapes) self.old }
+    {
+        self.counts.add_marks(marks);
+        self.on_page = self.on_page.saturating_add(marks);
     }
 
     /// A difference here, of the items at these places.

@@ -1,12 +1,14 @@
 //! A job that follows another one, event by event.
 
-ghost use Rattle.std.specs.Prelude.{◌≡◌, ◌+◌, ◌<◌, [], IfErr, IsFalse, OnOk, false, true};
+ghost use Rattle.std.specs.Prelude.{◌≡◌, ◌+◌, ◌<◌, [], IfErr, IsFalse, IsTrue, OnOk, false, true};
 ghost use Rattle.std.specs.Prelude.{length, option_map};
 ghost use Rattle.device_profile.specs.Printer.{IsAllowed};
+ghost use Rattle.page_env.specs.declared.text_lines.TextAppearance.{TextAppearance};
 ghost use Rattle.comparison.specs.Comparing.{FollowsOn, HasFollowed, IsNextDifference};
 ghost use Rattle.comparison.specs.Comparing.{difference_of, further_difference, lacks_next};
 ghost use Rattle.comparison.specs.Comparing.{next_of, still_made};
 ghost use Rattle.comparison.specs.Running.{IsErrorOfJob, is_open, work};
+ghost use Rattle.comparison.specs.Texts.{FollowsLines, GoNext};
 ghost use Rattle.sinks.specs.Owned.{event_of};
 ghost use Rattle.streams.specs.Errors.{is_err_of_read};
 ghost use Rattle.streams.specs.Source.{SourceState};
@@ -16,6 +18,7 @@ use crate::difference::{Change, Difference, Spot};
 use crate::events::is_same;
 use crate::running_job::RunningJob;
 use device_profile::{Panel, Profile};
+use page_env::{TextLines, TextPlace};
 use pcl_items::Place;
 use sinks::OwnedEvent;
 use std::alloc::Allocator;
@@ -65,6 +68,27 @@ impl<'p, A: Allocator + Copy, P: Allocator> Follower<'p, A, P> {
         self.job
     }
 
+    /// The job, lent.
+    pub(crate) fn job(&self) -> &RunningJob<'p, A, P>
+        ensures { result.now ≡ self.now.run }
+    {
+        &self.job
+    }
+
+    /// Carries out the first bytes ahead, which go as lines of text, where nothing is left to
+    /// compare. Their marks count as compared.
+    pub(crate) fn pass_lines(&mut self, lines: &TextLines)
+        requires running { is_open self.old.run.progress ≡ true }
+        requires level { still_made self.old ≡ [] }
+        requires next { (look : TextAppearance) × (from : TextPlace)
+            × GoNext look from lines.now self.old.run }
+        ensures passed { FollowsLines lines.now self.old self.new }
+        ensures number { self.new.run.number ≡ self.old.run.number }
+    {
+        self.taken = 0;
+        self.job.pass_lines(lines);
+    }
+
     /// Goes on until there is an event that is not behind it, or the job is over.
     ///
     /// The errors are those of a step of a job.
@@ -84,8 +108,32 @@ impl<'p, A: Allocator + Copy, P: Allocator> Follower<'p, A, P> {
         Ok(())
     }
 
+    /// Goes on until text stands next, an event is not behind it, or the job is over.
+    ///
+    /// The errors are those of a step of a job.
+    pub(crate) fn come_to_text<S: Source>(&mut self, source: &mut S) -> Result<(), Error>
+        requires { IsFalse (S.state source.old).failed }
+        ensures run { OnOk result (FollowsOn (S.state source.old) (S.state source.new)
+            self.old self.new) }
+        ensures number { self.new.run.number ≡ self.old.run.number }
+        ensures read { (S.state source.new).failed ≡ is_err_of_read result }
+        ensures err { IfErr result IsErrorOfJob }
+    {
+        'steps: while self.lacks_text() {
+            self.go_on(source)?;
+        }
+        Ok(())
+    }
+
+    /// Whether an event is still to come, the job is not over and no text stands next.
+    fn lacks_text(&self) -> bool
+        ensures { IsTrue result → lacks_next self.now ≡ true }
+    {
+        self.lacks_next() && !self.job.has_text_next()
+    }
+
     /// Whether an event is still to come, and the job is not over.
-    fn lacks_next(&self) -> bool
+    pub(crate) fn lacks_next(&self) -> bool
         ensures { result ≡ lacks_next self.now }
     {
         match self.next() {

@@ -13,6 +13,7 @@ mod follower;
 mod laws;
 mod running_job;
 mod stepping;
+mod texts;
 
 pub use compare::{Unread, Which, compare_jobs};
 pub use difference::{Change, Comparison, Difference, Spot};

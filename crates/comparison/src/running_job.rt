@@ -1,19 +1,24 @@
 //! A job that is carried out, item by item, as it is read.
 
-ghost use Rattle.std.specs.Prelude.{◌≡◌, ◌*◌, ◌<◌, ◌≤◌, ◌^◌, List, [], IfErr, IsFalse, OnOk};
-ghost use Rattle.std.specs.Prelude.{false, length, map, true};
+ghost use Rattle.std.specs.Prelude.{◌≡◌, ◌*◌, ◌<◌, ◌≤◌, ◌^◌, List, [], IfErr, IfSome, IsFalse};
+ghost use Rattle.std.specs.Prelude.{OnOk, false, length, map, true};
 ghost use Rattle.device_profile.specs.Printer.{IsAllowed, Printer};
 ghost use Rattle.device_profile.specs.declared.panel.Panel.{Panel};
+ghost use Rattle.pcl_lexer.specs.Lexing.Passing.{ahead_of};
+ghost use Rattle.page_env.specs.declared.text_lines.TextAppearance.{TextAppearance};
+ghost use Rattle.page_machine.specs.TextLines.{IsMeasuredAt};
 ghost use Rattle.comparison.specs.Comparison.{Made};
 ghost use Rattle.comparison.specs.Running.{GoesBy, HasRun, IsErrorOfJob, IsWaiting, RunsOn};
 ghost use Rattle.comparison.specs.Running.{RunsOut, TakesEnd, TakesPiece, TakesWork, failure_of};
 ghost use Rattle.comparison.specs.Running.{is_open, place_after, progress_after, work};
+ghost use Rattle.comparison.specs.Texts.{GoNext, PassesLines};
 ghost use Rattle.sinks.specs.Owned.{event_of};
 ghost use Rattle.streams.specs.Errors.{is_err_of_read};
 ghost use Rattle.streams.specs.Source.{SourceState};
 
 use crate::stepping::{Stepped, step};
 use device_profile::{Panel, Profile};
+use page_env::{TextLines, TextMeasure, TextPlace};
 use page_machine::{Machine, Start};
 use pcl_items::Place;
 use pcl_lexer::Lexer;
@@ -144,6 +149,42 @@ impl<'p, A: Allocator + Copy, P: Allocator> RunningJob<'p, A, P> {
         ensures { result ≡ self.now.place }
     {
         self.place
+    }
+
+    /// The bytes that stand next, where an item may begin between units; else none.
+    pub(crate) fn ahead(&self) -> &[u8]
+        ensures { result.now ≡ ahead_of self.now.lexer }
+    {
+        self.lexer.ahead()
+    }
+
+    /// Whether text stands next.
+    pub(crate) fn has_text_next(&self) -> bool {
+        matches!(self.lexer.ahead(), [b' '..=255, ..])
+    }
+
+    /// What lines of text take from where the machine stands, and where they begin, if that is
+    /// known.
+    pub(crate) fn text_measure(&self) -> Option<(TextMeasure<'p, P>, TextPlace)>
+        ensures { IfSome result (λ known. IsMeasuredAt self.now.machine known.0 known.1) }
+    {
+        self.machine.text_measure()
+    }
+
+    /// Carries out the first bytes ahead, which go as lines of text. What was made before is
+    /// forgotten, and of these lines nothing is kept.
+    pub(crate) fn pass_lines(&mut self, lines: &TextLines)
+        requires running { is_open self.old.progress ≡ true }
+        requires next { (look : TextAppearance) × (from : TextPlace)
+            × GoNext look from lines.now self.old }
+        ensures passed { PassesLines lines.now self.old self.new }
+        ensures less { work self.new < work self.old }
+        ensures none { self.new.events ≡ [] }
+        ensures number { self.new.number ≡ self.old.number }
+    {
+        self.recorder.clear();
+        self.machine.pass_lines(lines);
+        self.lexer.pass_lines(lines.count);
     }
 
     /// Carries out the next item or the end, or reads on. What was made before is forgotten.

@@ -1,33 +1,20 @@
-use Rattle.std.proofs.Common.{map, sym, ◌∙◌}
 use Rattle.std.proofs.lemmas.Result.{IfOk-weaker}
-use Rattle.sinks.specs.Owned.{event_of}
-use Rattle.comparison.specs.Comparing.{ItemCompares, StepCompares}
-use Rattle.comparison.specs.Comparison.{made_at}
-use Rattle.comparison.proofs.Ends.{errors_of_new, on_ok_always, read_no_old}
-use Rattle.comparison.proofs.SoFar.{made_last, step_compares}
+use Rattle.comparison.specs.Comparing.{StepCompares}
+use Rattle.comparison.proofs.SameLines.{step_behind}
 use Rattle.comparison.proofs.compare.compare_step.Goals as goal
 
-pub returns-in-Ok-clause-compared : goal.returns-in-Ok-clause-compared
-returns-in-Ok-clause-compared g c =
+pub returns-clause-compared : goal.returns-clause-compared
+returns-clause-compared g c =
     let old_now = g.S.Source.state c.args.old_job.now in
-    let old_now' = g.S.Source.state c.step.new.source in
+    let old_now' = g.S.Source.state c.compare_here.new.old_job in
     let new_now = g.T.Source.state c.args.new_job.now in
-    let new_now' = g.T.Source.state c.compare_made.new.new_job in
-    let made = made_at c.place.result (map event_of c.events.result.now) in
-    IfOk-weaker c.compare_made.result
-    (ItemCompares new_now new_now' c.args.spot.now c.compare_made.new.spot made c.args.second.now c.compare_made.new.second)
-    (StepCompares old_now old_now' new_now new_now' c.args.first.now c.step.new.self c.args.spot.now c.compare_made.new.spot
-    c.args.second.now c.compare_made.new.second)
-    (step_compares old_now old_now' new_now new_now' c.args.first.now c.step.new.self c.args.spot.now c.compare_made.new.spot
-    c.args.second.now c.compare_made.new.second made
-    (made_last c.step.new.self c.place.result (map event_of c.events.result.now) c.place.ensures c.events.ensures) c.in-Ok.ensures.run)
-    c.compare_made.ensures.compared
-
-pub returns-in-Ok-clause-less : goal.returns-in-Ok-clause-less
-returns-in-Ok-clause-less g c = on_ok_always c.compare_made.result c.in-Ok.ensures.less
-
-pub returns-in-Ok-clause-old_read : goal.returns-in-Ok-clause-old_read
-returns-in-Ok-clause-old_read g c = c.in-Ok.ensures.read ∙ sym (read_no_old c.compare_made.result c.compare_made.ensures.err)
-
-pub returns-in-Ok-clause-err : goal.returns-in-Ok-clause-err
-returns-in-Ok-clause-err g c = errors_of_new c.compare_made.result c.compare_made.ensures.err
+    let new_mid = g.T.Source.state c.come_to_text.new.new_job in
+    let new_now' = g.T.Source.state c.compare_here.new.new_job in
+    let here = c.compare_here.new in
+    IfOk-weaker c.compare_here.result
+    (StepCompares old_now old_now' new_mid new_now' c.args.first.now here.first c.args.spot.now here.spot c.come_to_text.new.second
+    here.second)
+    (StepCompares old_now old_now' new_now new_now' c.args.first.now here.first c.args.spot.now here.spot c.args.second.now here.second)
+    (step_behind old_now old_now' new_now new_mid new_now' c.args.first.now here.first c.args.spot.now here.spot c.args.second.now
+    c.come_to_text.new.second here.second c.in_ok-come_to_text.ensures.run)
+    c.compare_here.ensures.compared

@@ -1,0 +1,1 @@
+use Rattle.comparison.proofs.texts.same_count.Goals as goal
