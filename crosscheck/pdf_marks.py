@@ -13,7 +13,7 @@ from pdf_objects import Page, Unsound, holds
 from picture_marks import DENSITIES, ENCODINGS, places_of
 
 TOKEN = re.compile(rb"\s*(/[A-Za-z0-9]+|<[0-9a-f]*>|\([^()]*\)|\[[^\]]*\]|-?[\d.]+|[A-Za-z]+)")
-ROW = re.compile(rb"/W (\d+)/H 1/IM true/D\[1 0\]ID ")
+IMAGE = re.compile(rb"/W (\d+)/H (\d+)/IM true/D\[1 0\]ID ")
 FACES = {"F1": (False, False), "F2": (True, False), "F3": (False, True), "F4": (True, True)}
 HIDDEN = {"G1": "10U", "G2": "12U", "G3": "8U"}
 SHADES = {f"S{number}": density
@@ -182,16 +182,26 @@ class Reader:
             self.marks.append(Mark("line", (), (state.width, *path[0][1], *path[1][1])))
 
     def image(self) -> None:
-        row = ROW.match(self.page.content, self.at)
-        holds(row is not None and self.state.fill == "0", "a row")
-        data = self.page.content[row.end():row.end() + int(row[1]) // 8]
-        self.at = row.end() + len(data)
-        holds(self.page.content[self.at:self.at + 4] == b"\nEI ", "the end of a row")
+        """The rows of an image, without blank bytes at their ends; the first lies at its top."""
+        image = IMAGE.match(self.page.content, self.at)
+        holds(image is not None and self.state.fill == "0", "an image")
+        columns, rows = int(image[1]), int(image[2])
+        size = columns // 8
+        data = self.page.content[image.end():image.end() + rows * size]
+        self.at = image.end() + len(data)
+        holds(self.page.content[self.at:self.at + 4] == b"\nEI ", "the end of an image")
         self.at += 4
-        left, top = self.unit(Fraction(0), Fraction(0))
-        right, bottom = self.unit(Fraction(1), Fraction(1))
-        holds((right - left) == int(row[1]) * (bottom - top), "how large a row is")
-        self.marks.append(Mark("row", (Fraction(7200) / (bottom - top), data), (left, top)))
+        left, top = self.unit(Fraction(0), Fraction(1))
+        right, bottom = self.unit(Fraction(1), Fraction(0))
+        pixel = (right - left) / columns
+        holds(abs(bottom - top) == rows * pixel, "how large an image is")
+        holds(top < bottom or rows == 1, "an image upside down")
+        for number in range(rows):
+            row = data[number * size:(number + 1) * size]
+            place = left + 8 * pixel * (size - len(row.lstrip(b"\0")))
+            what = Fraction(7200) / pixel, row.strip(b"\0")
+            if what[1]:
+                self.marks.append(Mark("row", what, (place, min(top, bottom) + number * pixel)))
 
     # ---- text
 
@@ -318,7 +328,14 @@ def mark_differs(line: str, marks: List[Mark]) -> str:
     return "" if same else f"{mark} for {due}"
 
 
-def page_differs(page: Page, lines: List[str], fails: bool, is_proof: bool) -> str:
+def failure_differs(sentence: str, failure: str) -> str:
+    """What is wrong with the sentence on a failure, whose line is this, or nothing."""
+    at, number, name = re.fullmatch(r"FAIL at=(\d+) profile=\d+ (\d+) (.*)", failure).groups()
+    due = rf".*: .* at byte {at} on page \d+[,:] .* \({number} {re.escape(name)}\)"
+    return "" if re.fullmatch(due, sentence) else f"{sentence!r} for {failure!r}"
+
+
+def page_differs(page: Page, lines: List[str], failure: str, is_proof: bool) -> str:
     """What is wrong with a page that has these marks, or nothing."""
     try:
         marks = marks_of(page)
@@ -329,10 +346,13 @@ def page_differs(page: Page, lines: List[str], fails: bool, is_proof: bool) -> s
         if around != ["outline", "outline", "verdict", "letter"]:
             return f"round the marks stand {around}"
         marks = marks[2:-2]
-    if fails:
+    if failure:
         kinds = [mark.kind for mark in marks[-2:]]
         if kinds != ["cross", "sentence"]:
             return f"a failure by {kinds}"
+        why = failure_differs(marks[-1].what[1].decode("cp1252"), failure)
+        if why:
+            return why
         marks = marks[:-2]
     for number, line in enumerate(lines):
         why = mark_differs(line, marks)
