@@ -1,4 +1,4 @@
--- What is still to be written of the page that is open: rows of a raster are kept until a mark does not go on with them.
+-- What is still to be written of the open page: rows of a raster are kept until a mark does not go on with them.
 use Rattle.std.specs.Prelude.{ℕ, ◌+◌, ◌-◌, ◌^◌, min, Bool, false, List, []}
 use Rattle.device_profile.specs.declared.geometry.Geometry.{Geometry}
 use Rattle.page_env.specs.Mark.{PixelRow, Shape, Rectangle, Character, Row, Line}
