@@ -15,11 +15,10 @@ pending_appended old text new pixels pending appended pending_is pixels_are =
     ∙ ap (λ (l : List ℕ). text ++ pending_text old.pending l) pixels_are)
 
 -- whether a mark goes on with it
-pub on_is : (paper : Geometry) (mark : Shape) (old : Pdf) (pixels : List ℕ) (pending : Pending) (kept : ℕ) (on : Bool) →
-    on ≡ goes_on paper pending kept mark → kept ≡ length pixels → pixels ≡ old.pixels → pending ≡ old.pending →
+pub on_is : (paper : Geometry) (mark : Shape) (old : Pdf) (pixels : List ℕ) (pending : Pending) (on : Bool) →
+    on ≡ goes_on paper pending (length pixels) mark → pixels ≡ old.pixels → pending ≡ old.pending →
     on ≡ goes_on paper old.pending (length old.pixels) mark
-on_is paper mark old pixels pending kept on is kept_is pixels_are pending_is =
+on_is paper mark old pixels pending on is pixels_are pending_is =
     is
-    ∙ (ap (λ (n : ℕ). goes_on paper pending n mark) kept_is
     ∙ (ap (λ (l : List ℕ). goes_on paper pending (length l) mark) pixels_are
-    ∙ ap (λ (p : Pending). goes_on paper p (length old.pixels) mark) pending_is))
+    ∙ ap (λ (p : Pending). goes_on paper p (length old.pixels) mark) pending_is)

@@ -12,8 +12,8 @@ returns-then-is_on g c =
     let text = c.args.text.now.items in
     let mark = shape_of c.args.mark.now in
     let is : c.goes_on-is_on.result ≡ goes_on c.args.paper.now old.pending (length old.pixels) mark =
-    on_is c.args.paper.now mark old c.pixels.result.now c.pending.result c.len.result c.goes_on-is_on.result c.goes_on-is_on.ensures
-    c.len.ensures c.pixels.ensures c.pending.ensures in
+    on_is c.args.paper.now mark old c.pixels.result.now c.pending.result c.goes_on-is_on.result c.goes_on-is_on.ensures
+    c.pixels.ensures c.pending.ensures in
     subst (λ (on : Bool). HasWritten (if on then nothing old else settled old) text text old) (sym c.if-is_on.true ∙ is)
     (record { text_is = sym (append-nil text); pdf_is = refl })
 
@@ -22,8 +22,8 @@ returns g c =
     let old = c.args.self.now in
     let mark = shape_of c.args.mark.now in
     let is : c.goes_on-is_on.result ≡ goes_on c.args.paper.now old.pending (length old.pixels) mark =
-    on_is c.args.paper.now mark old c.pixels.result.now c.pending.result c.len.result c.goes_on-is_on.result c.goes_on-is_on.ensures
-    c.len.ensures c.pixels.ensures c.pending.ensures in
+    on_is c.args.paper.now mark old c.pixels.result.now c.pending.result c.goes_on-is_on.result c.goes_on-is_on.ensures
+    c.pixels.ensures c.pending.ensures in
     subst
     (λ (on : Bool).
     OnOk c.settle.result
