@@ -228,15 +228,22 @@ class Reader:
         self.text_matrix = tuple(self.numbers(6))
 
     def show(self) -> None:
+        """The letters of a string one by one, a sentence, or the number of a page."""
         word = self.words.pop()
-        codes = bytes.fromhex(word[1:-1].decode()) if word.startswith(b"<") else word[1:-1]
-        matrix = times(self.text_matrix, self.state.matrix)
-        left, y = self.unit(Fraction(0), Fraction(0), matrix)
-        right, level = self.unit(Fraction(6, 10), Fraction(0), matrix)
-        upper, top = self.unit(Fraction(0), Fraction(1), matrix)
-        holds(level == y and upper == left, "text that is not level")
         kind = "letter" if self.state.fill == "0" else "sentence"
-        self.marks.append(Mark(kind, (self.font, codes, self.render), (left, right, y, y - top)))
+        codes, step = [word[1:-1]], Fraction(6, 10)
+        if word.startswith(b"<"):
+            codes = [bytes.fromhex(word[1:-1].decode())]
+            if kind == "letter":
+                codes = [bytes([code]) for code in codes[0]]
+        matrix = times(self.text_matrix, self.state.matrix)
+        for number, code in enumerate(codes):
+            left, y = self.unit(number * step, Fraction(0), matrix)
+            right, level = self.unit((number + 1) * step, Fraction(0), matrix)
+            upper, top = self.unit(number * step, Fraction(1), matrix)
+            holds(level == y and upper == left, "text that is not level")
+            places = left, right, y, y - top
+            self.marks.append(Mark(kind, (self.font, code, self.render), places))
 
     def form(self) -> None:
         holds(self.name() == "V" and self.state.matrix == IDENTITY, "a form")

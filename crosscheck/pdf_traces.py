@@ -95,19 +95,25 @@ def image(element: xml.Element) -> Mark:
     return Mark("image", size, (x, min(y, to_y), to_x, max(y, to_y)))
 
 
-def text(element: xml.Element) -> Mark:
+def text(element: xml.Element) -> List[Mark]:
+    """The letters of a string one by one, or a sentence."""
     span, = element.findall("span")
     scale = numbers(span.get("trm"))
     matrix = times((*scale, Fraction(0), Fraction(0)), matrix_of(element))
     holds(matrix[1] == matrix[2] == 0 and matrix[0] > 0, "text that is not level")
-    letters = span.findall("g")
-    left, level = moved(matrix_of(element), Fraction(letters[0].get("x")),
-                        Fraction(letters[0].get("y")))
-    right = left + matrix[0] * Fraction(letters[0].get("adv"))
-    shown = "".join(letter.get("unicode") for letter in letters)
     kind = "hidden" if element.tag == "ignore_text" else \
         "letter" if color_of(element) == "0" else "sentence"
-    return Mark(kind, (span.get("font"), shown), (left, right, level, abs(matrix[3])))
+    marks = []
+    for letter in span.findall("g"):
+        left, level = moved(matrix_of(element), Fraction(letter.get("x")),
+                            Fraction(letter.get("y")))
+        right = left + matrix[0] * Fraction(letter.get("adv"))
+        what = span.get("font"), letter.get("unicode")
+        marks.append(Mark(kind, what, (left, right, level, abs(matrix[3]))))
+    if kind != "sentence":
+        return marks
+    whole = "".join(mark.what[1] for mark in marks)
+    return [Mark(kind, (span.get("font"), whole), marks[0].places)]
 
 
 def drawn_in(lines: xml.Element) -> str:
@@ -134,14 +140,15 @@ def clipped(area: xml.Element, inner: List[xml.Element]) -> Mark:
 
 def marks_in(elements: List[xml.Element]) -> Iterator[Mark]:
     """The marks of a page, in their order."""
-    known = {"fill_path": filled, "stroke_path": stroked, "fill_image_mask": image,
-             "fill_text": text, "ignore_text": text}
+    known = {"fill_path": filled, "stroke_path": stroked, "fill_image_mask": image}
     while elements:
         element = elements.pop(0)
         if element.tag == "clip_path":
             end = next(at for at, one in enumerate(elements) if one.tag == "pop_clip")
             yield clipped(element, elements[:end])
             del elements[:end + 1]
+        elif element.tag in ("fill_text", "ignore_text"):
+            yield from text(element)
         elif element.tag != "set_default_colorspaces":
             holds(element.tag in known, f"the element {element.tag}")
             yield known[element.tag](element)
@@ -240,10 +247,11 @@ def traced_differs(page: Traced, lines: List[str], failure: str, is_proof: bool)
     """What is wrong with a page that has these marks, or nothing."""
     marks, lines = page.marks, list(lines)
     if is_proof:
-        around = [mark.kind for mark in marks[:2] + marks[-2:]]
-        if around != ["outline", "outline", "verdict", "letter"]:
+        end = max((at for at, mark in enumerate(marks) if mark.kind == "verdict"), default=0)
+        around = [mark.kind for mark in marks[:2] + marks[end:]]
+        if around[:3] != ["outline", "outline", "verdict"] or set(around[3:]) != {"letter"}:
             return f"round the marks stand {around}"
-        marks = marks[2:-2]
+        marks = marks[2:end]
     if failure:
         kinds = [mark.kind for mark in marks[-2:]]
         if kinds != ["cross", "sentence"]:

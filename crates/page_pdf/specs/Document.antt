@@ -3,6 +3,7 @@ use Rattle.std.specs.Prelude.{◌≡◌, ℕ, ℤ, ◌+◌, ◌-◌, ◌/◌, �
 use Rattle.std.specs.Prelude.{codes, decimal, length}
 use Rattle.page_env.specs.declared.mark.PageEnd.{PageEnd}
 use Rattle.device_profile.specs.declared.geometry.Geometry.{Geometry}
+use Rattle.page_env.specs.declared.mark.Glyph.{Glyph}
 use Rattle.page_env.specs.Mark.{PixelRow, Shape, Rectangle, Character, Row, Line}
 use Rattle.page_picture.specs.declared.characters.Repertoire.{Repertoire}
 use Rattle.page_picture.specs.declared.characters.Repertoire.TheVariants.{Pc8, Pc850, Roman8, Windows}
@@ -18,7 +19,7 @@ use Rattle.page_pdf.specs.Marks.{mark_text}
 use Rattle.page_pdf.specs.Objects.{catalog_body, content_end, content_start, end_words, failing_words, information_body}
 use Rattle.page_pdf.specs.Objects.{label_body, object_text, page_body, pages_body, verdict_body}
 use Rattle.page_pdf.specs.Pages.{failed_text, page_end, page_start}
-use Rattle.page_pdf.specs.Pending.{goes_on, pending_text, with_row}
+use Rattle.page_pdf.specs.Pending.{behind_glyph, goes_on, is_string, pending_text, with_row}
 use Rattle.page_pdf.specs.Table.{places_table}
 
 -- ---- what is known of it
@@ -165,16 +166,20 @@ row_kept paper row pdf =
       pixels = pdf.pixels ++ framed (frame_width paper row.resolution) row;
     }
 
+-- a letter leaves its string open
+abbrev pub glyph_kept : Glyph → Pdf → Pdf
+glyph_kept glyph pdf = record pdf { pending = behind_glyph glyph }
+
 -- what is kept of a mark
 abbrev pub mark_kept : Geometry → Shape → Pdf → Pdf
 mark_kept paper (Rectangle area) pdf = pdf
-mark_kept paper (Character glyph) pdf = pdf
+mark_kept paper (Character glyph) pdf = glyph_kept glyph pdf
 mark_kept paper (Row row) pdf = row_kept paper row pdf
 mark_kept paper (Line line) pdf = pdf
 
 -- a mark that goes on with what is pending, or has nothing before it
 unfoldable pub mark_put : Geometry → Shape → Pdf → Written
-mark_put paper mark pdf = writes (mark_text mark) (mark_kept paper mark pdf)
+mark_put paper mark pdf = writes (mark_text (is_string pdf.pending) mark) (mark_kept paper mark pdf)
 
 -- a mark on it
 unfoldable pub mark_written : PageSheet → Shape → Pdf → Written

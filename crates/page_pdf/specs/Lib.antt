@@ -7,6 +7,7 @@ pub mod Hexes
 pub mod Codes
 pub mod Marks
 pub mod Bands
+pub mod Strings
 pub mod Pending
 pub mod Pages
 pub mod Maps

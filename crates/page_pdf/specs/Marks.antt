@@ -1,5 +1,5 @@
 -- What marks a page, mark by mark.
-use Rattle.std.specs.Prelude.{ℕ, nat_le, if◌then◌else◌, List, [], ◌∷◌, ◌++◌, decimal}
+use Rattle.std.specs.Prelude.{ℕ, nat_le, Bool, if◌then◌else◌, List, [], ◌∷◌, ◌++◌, decimal}
 use Rattle.std.specs.Prelude.{Option, None, Some}
 use Rattle.page_env.specs.declared.mark.Area.{Area}
 use Rattle.page_env.specs.declared.mark.Fill.{Fill}
@@ -53,11 +53,19 @@ letter_figures glyph =
     figure (letter_width glyph.bounds) ++ mark_part parts.TextHeight ++ height_figure glyph.request.height
     ++ length_figure glyph.bounds.left ++ length_figure glyph.y
 
--- a character that the faces have with this code
-unfoldable pub letter_text : Glyph → (code : ℕ) → List ℕ
-letter_text glyph code =
+-- how a string of letters begins, of which this is the first
+unfoldable pub string_start : Glyph → List ℕ
+string_start glyph =
     mark_part parts.TextStart ++ face_name glyph.request ++ mark_part parts.TextSize ++ letter_figures glyph
-    ++ mark_part parts.TextCode ++ code_digits code ++ mark_part parts.TextEnd
+    ++ mark_part parts.TextCode
+
+-- the same, unless a string goes on
+abbrev pub due_start : (is_on : Bool) → Glyph → List ℕ
+due_start is_on glyph = if is_on then [] else string_start glyph
+
+-- a character that the faces have with this code; its string ends behind the last one
+unfoldable pub letter_text : (is_on : Bool) → Glyph → (code : ℕ) → List ℕ
+letter_text is_on glyph code = due_start is_on glyph ++ code_digits code
 
 -- one that they have not: it is there to be found, with its code in the job, and does not show
 unfoldable pub hidden_text : Glyph → List ℕ
@@ -66,17 +74,17 @@ hidden_text glyph =
     ++ letter_figures glyph ++ mark_part parts.TextCode ++ code_digits glyph.code ++ mark_part parts.HiddenEnd
 
 -- a character that is known, by its code in the faces, if it has one: else its box shows
-unfoldable pub known_text : Glyph → Option ℕ → List ℕ
-known_text glyph None = box_text glyph ++ hidden_text glyph
-known_text glyph (Some code) = letter_text glyph code
+unfoldable pub known_text : (is_on : Bool) → Glyph → Option ℕ → List ℕ
+known_text is_on glyph None = box_text glyph ++ hidden_text glyph
+known_text is_on glyph (Some code) = letter_text is_on glyph code
 
 -- by its number in Unicode, if it is known: else there is its box alone
-unfoldable pub character_text : Glyph → Option ℕ → List ℕ
-character_text glyph None = box_text glyph
-character_text glyph (Some character) = known_text glyph (letter_of character)
+unfoldable pub character_text : (is_on : Bool) → Glyph → Option ℕ → List ℕ
+character_text is_on glyph None = box_text glyph
+character_text is_on glyph (Some character) = known_text is_on glyph (letter_of character)
 
-unfoldable pub glyph_text : Glyph → List ℕ
-glyph_text glyph = character_text glyph (character_of glyph.request.symbol_set glyph.code)
+unfoldable pub glyph_text : (is_on : Bool) → Glyph → List ℕ
+glyph_text is_on glyph = character_text is_on glyph (character_of glyph.request.symbol_set glyph.code)
 
 -- ---- lines of a pen
 
@@ -87,9 +95,10 @@ line_text line =
 
 -- ---- a mark
 
--- a row has no text of its own: it is kept, and goes into an image with those round it
-abbrev pub mark_text : Shape → List ℕ
-mark_text (Rectangle area) = area_text area
-mark_text (Character glyph) = glyph_text glyph
-mark_text (Row row) = []
-mark_text (Line line) = line_text line
+-- where a string of letters goes on, or does not. A row has no text of its own: it is kept, and goes into an image
+-- with those round it
+abbrev pub mark_text : (is_on : Bool) → Shape → List ℕ
+mark_text is_on (Rectangle area) = area_text area
+mark_text is_on (Character glyph) = glyph_text is_on glyph
+mark_text is_on (Row row) = []
+mark_text is_on (Line line) = line_text line

@@ -9,6 +9,7 @@ ghost use Rattle.page_pdf.specs.Document.{
   document_end,
   end_written,
   failure_written,
+  glyph_kept,
   label_told,
   last_written,
   mark_written,
@@ -50,10 +51,10 @@ use crate::objects::{
     push_object_text, push_page_body, push_pages_body, push_verdict_body,
 };
 use crate::pages::{push_failed, push_page_end, push_page_start};
-use crate::pending::{Pending, goes_on, push_pending, with_row};
+use crate::pending::{Pending, behind_glyph, goes_on, is_string, push_pending, with_row};
 use crate::table::push_places_table;
 use device_profile::Geometry;
-use page_env::{Mark, PageEnd, RasterRow, SheetPlace};
+use page_env::{Glyph, Mark, PageEnd, RasterRow, SheetPlace};
 use shown_bytes::push_number;
 use std::alloc::{AllocError, Allocator, Global};
 use std::marker::Model;
@@ -380,13 +381,23 @@ impl<A: Allocator + Copy> Document<A> {
         Ok(())
     }
 
+    /// Leaves the string of a letter open.
+    fn keep_glyph(&mut self, glyph: &Glyph)
+        ensures { self.new ≡ glyph_kept glyph.now self.old }
+    {
+        self.pending = behind_glyph(glyph);
+    }
+
     /// Keeps what is not written yet of a mark.
     fn keep(&mut self, paper: &Geometry, mark: &Mark<'_>) -> Result<(), AllocError>
         ensures { OnOk result (self.new ≡ mark_kept paper.now (shape_of mark.now) self.old) }
     {
         match mark {
             Mark::Rect(_) => Ok(()),
-            Mark::Glyph(_) => Ok(()),
+            Mark::Glyph(glyph) => {
+                self.keep_glyph(glyph);
+                Ok(())
+            }
             Mark::Row(row) => self.keep_row(paper, row),
             Mark::Line(_) => Ok(()),
         }
@@ -402,9 +413,10 @@ impl<A: Allocator + Copy> Document<A> {
         ensures { OnOk result (HasWritten (mark_put paper.now (shape_of mark.now) self.old)
             text.old.items text.new.items self.new) }
     {
+        let is_on = is_string(&self.pending());
         self.keep(paper, mark)?;
         let old_len = text.len();
-        push_mark(text, mark)?;
+        push_mark(text, is_on, mark)?;
         self.count(old_len, text);
         Ok(())
     }

@@ -92,7 +92,7 @@ pub(crate) fn push_points<A: Allocator>(
 }
 
 /// How many hundredths of a unit lie between the edges of a box.
-fn box_width(bounds: &Bounds) -> u64
+pub(crate) fn box_width(bounds: &Bounds) -> u64
     ensures value { result ≡ box_width bounds.now }
     ensures small { result ≤ 2 ^ 48 }
 {

@@ -18,6 +18,7 @@ mod page_parts;
 mod pages;
 mod pending;
 mod starts;
+mod strings;
 mod table;
 
 pub use document::{Document, PageSheet};

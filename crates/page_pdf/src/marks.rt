@@ -5,6 +5,7 @@ ghost use Rattle.page_pdf.specs.Marks.{
   area_text,
   box_text,
   character_text,
+  due_start,
   fill_end,
   fill_start,
   glyph_text,
@@ -15,6 +16,7 @@ ghost use Rattle.page_pdf.specs.Marks.{
   line_text,
   mark_text,
   shade_digit,
+  string_start,
 };
 
 use crate::codes::{face_name, hidden_name, letter_of};
@@ -25,16 +27,19 @@ use page_picture::{character_of, repertoire_of};
 use shown_bytes::push_number;
 use std::alloc::{AllocError, Allocator};
 
-/// Appends what a mark is on its page: nothing of a row, which is kept.
+/// Appends what a mark is on its page, where a string of letters goes on, or does not: nothing of a
+/// row, which is kept.
 pub(crate) fn push_mark<A: Allocator>(
     text: &mut Vec<u8, A>,
+    is_on: bool,
     mark: &Mark<'_>,
 ) -> Result<(), AllocError>
-    ensures { OnOk result (text.new.items ≡ text.old.items ++ mark_text (shape_of mark.now)) }
+    ensures { OnOk result
+        (text.new.items ≡ text.old.items ++ mark_text is_on (shape_of mark.now)) }
 {
     match mark {
         Mark::Rect(area) => push_area(text, area),
-        Mark::Glyph(glyph) => push_glyph(text, glyph),
+        Mark::Glyph(glyph) => push_glyph(text, is_on, glyph),
         Mark::Row(_) => Ok(()),
         Mark::Line(line) => push_line(text, line),
     }
@@ -106,26 +111,31 @@ fn fill_end(fill: Fill) -> &'static [u8]
 // ---- characters
 
 #[tactic(auto, unfolding(crate::specs::Marks::glyph_text))]
-fn push_glyph<A: Allocator>(text: &mut Vec<u8, A>, glyph: &Glyph) -> Result<(), AllocError>
-    ensures { OnOk result (text.new.items ≡ text.old.items ++ glyph_text glyph.now) }
+fn push_glyph<A: Allocator>(
+    text: &mut Vec<u8, A>,
+    is_on: bool,
+    glyph: &Glyph,
+) -> Result<(), AllocError>
+    ensures { OnOk result (text.new.items ≡ text.old.items ++ glyph_text is_on glyph.now) }
 {
     let character = character_of(glyph.request.symbol_set, glyph.code);
-    push_character(text, glyph, character)
+    push_character(text, is_on, glyph, character)
 }
 
 /// Appends a character that has this number in Unicode, if it is known.
 #[tactic(auto, unfolding(crate::specs::Marks::character_text))]
 fn push_character<A: Allocator>(
     text: &mut Vec<u8, A>,
+    is_on: bool,
     glyph: &Glyph,
     character: Option<u16>,
 ) -> Result<(), AllocError>
     ensures { OnOk result
-        (text.new.items ≡ text.old.items ++ character_text glyph.now character) }
+        (text.new.items ≡ text.old.items ++ character_text is_on glyph.now character) }
 {
     match character {
         None => push_box_of(text, glyph),
-        Some(character) => push_known(text, glyph, letter_of(character)),
+        Some(character) => push_known(text, is_on, glyph, letter_of(character)),
     }
 }
 
@@ -133,17 +143,18 @@ fn push_character<A: Allocator>(
 #[tactic(auto, unfolding(crate::specs::Marks::known_text))]
 fn push_known<A: Allocator>(
     text: &mut Vec<u8, A>,
+    is_on: bool,
     glyph: &Glyph,
     code: Option<u8>,
 ) -> Result<(), AllocError>
-    ensures { OnOk result (text.new.items ≡ text.old.items ++ known_text glyph.now code) }
+    ensures { OnOk result (text.new.items ≡ text.old.items ++ known_text is_on glyph.now code) }
 {
     match code {
         None => {
             push_box_of(text, glyph)?;
             push_hidden(text, glyph)
         }
-        Some(code) => push_letter(text, glyph, code),
+        Some(code) => push_letter(text, is_on, glyph, code),
     }
 }
 
@@ -170,22 +181,44 @@ fn push_letter_figures<A: Allocator>(text: &mut Vec<u8, A>, glyph: &Glyph) -> Re
     push_length(text, glyph.y)
 }
 
-/// Appends a character that the faces have with this code.
-#[tactic(auto, unfolding(crate::specs::Marks::letter_text))]
-fn push_letter<A: Allocator>(
-    text: &mut Vec<u8, A>,
-    glyph: &Glyph,
-    code: u8,
-) -> Result<(), AllocError>
-    ensures { OnOk result (text.new.items ≡ text.old.items ++ letter_text glyph.now code) }
+/// Appends how a string of letters begins, of which this is the first.
+#[tactic(auto, unfolding(crate::specs::Marks::string_start))]
+fn push_string_start<A: Allocator>(text: &mut Vec<u8, A>, glyph: &Glyph) -> Result<(), AllocError>
+    ensures { OnOk result (text.new.items ≡ text.old.items ++ string_start glyph.now) }
 {
     text.extend_from_slice(MarkPart::TextStart.bytes())?;
     text.extend_from_slice(face_name(&glyph.request))?;
     text.extend_from_slice(MarkPart::TextSize.bytes())?;
     push_letter_figures(text, glyph)?;
-    text.extend_from_slice(MarkPart::TextCode.bytes())?;
-    push_code(text, code)?;
-    text.extend_from_slice(MarkPart::TextEnd.bytes())
+    text.extend_from_slice(MarkPart::TextCode.bytes())
+}
+
+/// Appends the same, unless a string goes on.
+fn push_due_start<A: Allocator>(
+    text: &mut Vec<u8, A>,
+    is_on: bool,
+    glyph: &Glyph,
+) -> Result<(), AllocError>
+    ensures { OnOk result (text.new.items ≡ text.old.items ++ due_start is_on glyph.now) }
+{
+    if is_on {
+        return Ok(());
+    }
+    push_string_start(text, glyph)
+}
+
+/// Appends a character that the faces have with this code; its string is left open.
+#[tactic(auto, unfolding(crate::specs::Marks::letter_text))]
+fn push_letter<A: Allocator>(
+    text: &mut Vec<u8, A>,
+    is_on: bool,
+    glyph: &Glyph,
+    code: u8,
+) -> Result<(), AllocError>
+    ensures { OnOk result (text.new.items ≡ text.old.items ++ letter_text is_on glyph.now code) }
+{
+    push_due_start(text, is_on, glyph)?;
+    push_code(text, code)
 }
 
 /// Appends a character that the faces have not, so that it is found, and does not show.

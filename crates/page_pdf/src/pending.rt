@@ -2,16 +2,21 @@
 ghost use Rattle.std.specs.Prelude.{◌≡◌, ◌++◌, OnOk};
 ghost use Rattle.page_env.specs.Mark.{row_of, shape_of};
 ghost use Rattle.page_pdf.specs.Pending.{
+  behind_glyph,
   count_with,
   goes_on,
+  goes_on_behind,
   goes_on_below,
+  is_string,
   pending_text,
   with_row,
 };
 
 use crate::bands::{Band, band_of, goes_below, push_band};
+use crate::mark_parts::MarkPart;
+use crate::strings::{goes_behind, is_letter};
 use device_profile::Geometry;
-use page_env::{Mark, RasterRow};
+use page_env::{Glyph, Mark, RasterRow};
 use std::alloc::{AllocError, Allocator};
 
 /// What is still to be written of a page.
@@ -21,6 +26,8 @@ pub(crate) enum Pending {
     Nothing,
     /// Rows of a raster, whose pixels are kept.
     Rows(Band),
+    /// The end of a string of letters, of which this is the last.
+    Letters(Glyph),
 }
 
 /// Appends what is pending, with the pixels of the rows.
@@ -35,6 +42,7 @@ pub(crate) fn push_pending<A: Allocator>(
     match pending {
         Pending::Nothing => Ok(()),
         Pending::Rows(band) => push_band(text, band, pixels),
+        Pending::Letters(_) => text.extend_from_slice(MarkPart::TextEnd.bytes()),
     }
 }
 
@@ -50,6 +58,18 @@ fn goes_on_below(paper: &Geometry, band: &Band, kept: usize, mark: &Mark<'_>) ->
     }
 }
 
+/// Whether a mark goes on with a string whose last letter is this one.
+fn goes_on_behind(last: &Glyph, mark: &Mark<'_>) -> bool
+    ensures { result ≡ goes_on_behind last.now (shape_of mark.now) }
+{
+    match mark {
+        Mark::Rect(_) => false,
+        Mark::Glyph(glyph) => goes_behind(last, glyph),
+        Mark::Row(_) => false,
+        Mark::Line(_) => false,
+    }
+}
+
 /// Whether a mark goes on with what is pending, where so many bytes of pixels are kept.
 pub(crate) fn goes_on(paper: &Geometry, pending: &Pending, kept: usize, mark: &Mark<'_>) -> bool
     ensures { result ≡ goes_on paper.now pending.now kept (shape_of mark.now) }
@@ -57,6 +77,7 @@ pub(crate) fn goes_on(paper: &Geometry, pending: &Pending, kept: usize, mark: &M
     match pending {
         Pending::Nothing => false,
         Pending::Rows(band) => goes_on_below(paper, band, kept, mark),
+        Pending::Letters(last) => goes_on_behind(last, mark),
     }
 }
 
@@ -67,6 +88,7 @@ fn count_with(pending: &Pending) -> u64
     match pending {
         Pending::Nothing => 1,
         Pending::Rows(band) => band.count.saturating_add(1),
+        Pending::Letters(_) => 1,
     }
 }
 
@@ -75,4 +97,26 @@ pub(crate) fn with_row(paper: &Geometry, pending: &Pending, row: &RasterRow<'_>)
     ensures { result ≡ with_row paper.now pending.now (row_of row.now) }
 {
     Pending::Rows(band_of(paper, row, count_with(pending)))
+}
+
+/// Whether a string of letters is open.
+pub(crate) fn is_string(pending: &Pending) -> bool
+    ensures { result ≡ is_string pending.now }
+{
+    match pending {
+        Pending::Nothing => false,
+        Pending::Rows(_) => false,
+        Pending::Letters(_) => true,
+    }
+}
+
+/// What is pending behind a character.
+pub(crate) fn behind_glyph(glyph: &Glyph) -> Pending
+    ensures { result ≡ behind_glyph glyph.now }
+{
+    if is_letter(glyph) {
+        Pending::Letters(*glyph)
+    } else {
+        Pending::Nothing
+    }
 }
