@@ -5,6 +5,7 @@
 
 A pair is a random job and an edit of it: one of its numbers changed, two of its items swapped, one
 left out or made twice, a page more, its bytes broken, or the job as `plain` and as `pin` write it.
+Every third pair is mostly text (`text_pairs.py`), lines of which both jobs may print at once.
 What is due is found here by the lines that the program's own `pages` writes of both jobs on each
 printer, one behind another; the places of the items are those of `lexer.py` and of the machine of
 `machine.py`, whose lines have to be the same. Of `plain` of a job that fails nowhere it has to be
@@ -27,8 +28,10 @@ import oracle                                                      # noqa: E402
 from items import FRAME, canon                                     # noqa: E402
 from lexer import lex                                              # noqa: E402
 from machine import Machine                                        # noqa: E402
+from pdf_jobs import PROFILE as RICH_PROFILE                       # noqa: E402
 from printer_profile import Profile                                # noqa: E402
 from state import Finding                                          # noqa: E402
+from text_pairs import text_edit, text_job                         # noqa: E402
 
 SECONDS = 60
 MOST_PRINTERS = 3
@@ -292,35 +295,60 @@ def far_enough(job: bytes, profile: Profile) -> bytes:
     return spelled(items) + (b"\x1b%0A" if lex(spelled(items)).mode == FRAME else b"")
 
 
+class Pair(NamedTuple):
+    """Two jobs, and the texts of their printers with what these say."""
+    texts: List[bytes]
+    profiles: List[Profile]
+    old: bytes
+    new: bytes
+
+
+def pair_of(random: Random, seed: str, number: int) -> Optional[Pair]:
+    """The pair of a number; none where the text of a printer is refused."""
+    if number % 3 == 2:
+        texts, job, edit = [RICH_PROFILE], text_job(random), text_edit
+    else:
+        case = jobs.random_case(seed, number)
+        texts, job, edit = case.texts()[:MOST_PRINTERS], case.job, random.choice(EDITS)
+    texts = [named(text, f"printer{at}") for at, text in enumerate(texts)]
+    profiles, error = oracle.read_profiles(texts)
+    if error or not texts:
+        return None
+    # Most random jobs fail, and would tell nothing.
+    if random.random() < 0.8:
+        job = far_enough(job, profiles[0])
+    return Pair(texts, profiles, job, edit(random, job))
+
+
+def differ_in(tried: Tried, random: Random, pair: Pair) -> int:
+    """How many forms differ of a pair, and of some also of what `plain` and `pin` write."""
+    words = [f"p{at}.profile" for at in range(len(pair.texts))]
+    for word, text in zip(words, pair.texts):
+        (tried.folder / word).write_bytes(text)
+    (tried.folder / "old").write_bytes(pair.old)
+    (tried.folder / "new").write_bytes(pair.new)
+    names = [name_in(text) for text in pair.texts]
+    differ = compared(tried, pair.profiles, words, names)
+    if random.random() < 0.25:
+        differ += respelled(tried, pair.profiles, words, names)
+    return differ
+
+
 def main(program: str, count: int, seed: str) -> int:
     program = str(Path(program).resolve())
     done = differ = number = 0
     while done < 2 * count:
         random = Random(f"{seed}/edit/{number}")
-        case = jobs.random_case(seed, number)
+        pair = pair_of(random, seed, number)
         number += 1
-        texts = [named(text, f"printer{at}")
-                 for at, text in enumerate(case.texts()[:MOST_PRINTERS])]
-        profiles, error = oracle.read_profiles(texts)
-        if error or not texts:
+        if pair is None:
             continue
         with tempfile.TemporaryDirectory() as name:
-            tried = Tried(program, Path(name))
-            words = [f"p{at}.profile" for at in range(len(texts))]
-            for word, text in zip(words, texts):
-                (tried.folder / word).write_bytes(text)
-            # Most random jobs fail, and would tell nothing.
-            job = far_enough(case.job, profiles[0]) if random.random() < 0.8 else case.job
-            (tried.folder / "old").write_bytes(job)
-            (tried.folder / "new").write_bytes(random.choice(EDITS)(random, job))
-            names = [name_in(text) for text in texts]
-            wrong = compared(tried, profiles, words, names)
-            done += 2
-            if random.random() < 0.25:
-                wrong += respelled(tried, profiles, words, names)
-            if wrong:
-                print(f"  seed {seed}, job {number - 1}: {case.job!r}")
-            differ += wrong
+            wrong = differ_in(Tried(program, Path(name)), random, pair)
+        done += 2
+        if wrong:
+            print(f"  seed {seed}, pair {number - 1}: {pair.old!r} and {pair.new!r}")
+        differ += wrong
     print(f"{done} compared, {differ} differ")
     return 1 if differ else 0
 
