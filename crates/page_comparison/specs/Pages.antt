@@ -72,8 +72,11 @@ abbrev pub end_counted : Option PageEnd → Counts → Counts
 end_counted None counts = counts
 end_counted (Some values) counts = counted (Ended values) counts
 
+abbrev pub shapes_of : List MadeMark → List Shape
+shapes_of marks = map (λ mark. mark.shape) marks
+
 abbrev pub page_counted : MadePage → Counts → Counts
-page_counted page counts = end_counted page.end (counts_after (map (λ mark. Marked mark.shape) page.marks) counts)
+page_counted page counts = end_counted page.end (counts_after (map Marked (shapes_of page.marks)) counts)
 
 -- the counts behind these pages of OLD
 abbrev pub pages_counted : List (MadePage × MadePage) → Counts → Counts

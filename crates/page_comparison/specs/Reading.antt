@@ -9,12 +9,12 @@ use Rattle.sinks.specs.Counts.{no_counts}
 use Rattle.sinks.specs.declared.counts.Counts.{Counts}
 use Rattle.streams.specs.Pieces.{ByReads}
 use Rattle.streams.specs.Source.{SourceState}
+use Rattle.verdict.specs.declared.failure.Failure.{Failure}
 use Rattle.comparison.specs.declared.compare.Unread.{Unread}
 use Rattle.comparison.specs.declared.compare.Which.{Which}
-use Rattle.comparison.specs.declared.running_job.Progress.{Progress}
 use Rattle.comparison.specs.Comparing.{Following, HasFollowed, is_unread_by, next_of}
 use Rattle.comparison.specs.Comparison.{Made}
-use Rattle.comparison.specs.Running.{IsErrorOfJob, is_open}
+use Rattle.comparison.specs.Running.{IsErrorOfJob, failure_of, is_open}
 use Rattle.page_comparison.specs.declared.differences.Nearness.{Nearness}
 use Rattle.page_comparison.specs.declared.differences.PagesError.{PagesError}
 use Rattle.page_comparison.specs.declared.differences.PagesError.TheVariants.{Unread as UnreadJob, TooManyMarks, Memory}
@@ -24,13 +24,13 @@ use Rattle.page_comparison.specs.Pages.{MadePage, by_event, no_page, paired, pag
 
 -- ---- what is still to come of a job
 
-abbrev pub is_over_by : Option Event → Progress → Bool
-is_over_by (Some event) progress = false
-is_over_by None progress = not (is_open progress)
+abbrev pub is_over_by : Option Event → (open_still : Bool) → Bool
+is_over_by (Some event) open_still = false
+is_over_by None open_still = not open_still
 
 -- all that it makes is behind it, and it is over
 abbrev pub is_over : Following → Bool
-is_over following = is_over_by (next_of following) following.run.progress
+is_over following = is_over_by (next_of following) (is_open following.run.progress)
 
 -- it may still make this, and end at this place; of a job that is over nothing more comes, and its end is where it stands
 abbrev pub MayCome : Following → List Made → ℕ → Type 0
@@ -146,14 +146,15 @@ IsRight nearness most number printer panel old_first old_now new_first new_now t
     ByReads old_first old_now (λ old. ByReads new_first new_now (λ new.
     IsPageComparison nearness most number printer panel old new told))
 
--- of two jobs that were followed so far
-abbrev pub FailsRight : Nearness → (most : ℕ) → (old_now old_now' new_now : SourceState) → (old new : Following) →
-    ToldPages → Type 0
-FailsRight nearness most old_now old_now' new_now old new told =
-    (printer : Printer) (panel : Panel) (number : ℕ) (old_first new_first : SourceState) (old_taken new_taken : List Made) →
+-- Of two jobs that were followed so far NEW fails so, and OLD is carried out to its end from here: whatever the relation
+-- is, that is right.
+abbrev pub NewFailsRight : (old_now old_now' : SourceState) → (old : Following) → Failure → ToldPages → Type 0
+NewFailsRight old_now old_now' old failure told =
+    (nearness : Nearness) (most number : ℕ) (printer : Printer) (panel : Panel)
+    (old_first new_first new_now : SourceState) (new : Following) (old_taken new_taken : List Made) →
     HasFollowed printer panel old_first old_now old_taken old →
     HasFollowed printer panel new_first new_now new_taken new →
-    old.run.number ≡ number → new.run.number ≡ number →
+    old.run.number ≡ number → new.run.number ≡ number → failure_of new.run.progress ≡ Some failure →
     IsRight nearness most number printer panel old_first old_now' new_first new_now told
 
 -- of two jobs of which nothing was read before
@@ -176,6 +177,12 @@ is_unread_error which Memory = false
 abbrev pub is_unread : {T : Type 0} → Which → Result T PagesError → Bool
 is_unread which (Ok x) = false
 is_unread which (Err error) = is_unread_error which error
+
+-- the error is one of this job, or of none
+abbrev pub IsOwnError : Which → PagesError → Type 0
+IsOwnError which (UnreadJob unread) = unread.which ≡ which
+IsOwnError which (TooManyMarks page) = page.which ≡ which
+IsOwnError which Memory = Unit {0}
 
 abbrev pub IsErrorOfPages : PagesError → Type 0
 IsErrorOfPages (UnreadJob unread) = IsErrorOfJob unread.error

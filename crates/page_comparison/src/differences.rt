@@ -1,8 +1,10 @@
 //! All that differs of two jobs, page by page.
+ghost use Rattle.std.specs.Prelude.{◌≡◌};
+ghost use Rattle.page_comparison.specs.declared.differences.PagesError.TheVariants.{Memory};
 
 use comparison::{Unread, Which};
 use sinks::Counts;
-use std::alloc::Allocator;
+use std::alloc::{AllocError, Allocator};
 use verdict::Failure;
 
 /// Of a page that has more marks there is no comparison.
@@ -13,7 +15,7 @@ pub const MOST_MARKS: usize = 1 << 20;
 pub struct Nearness {
     /// Whether the marks of a page may be made in any order.
     pub any_order: bool,
-    /// How far each edge of a mark may lie off, in ticks, of which an inch has 7200; 0: not at all.
+    /// How far each edge of a mark may lie off, in 7200ths of an inch; 0: not at all.
     pub within: u64,
 }
 
@@ -30,8 +32,8 @@ pub enum PageChange {
     OnlyInNew,
     /// The page ends with other values, or one of the jobs does not have it.
     PageEnds,
-    /// The mark of OLD, and one that is made before it and that it touches, are made in the other
-    /// order by NEW: one covers the other otherwise.
+    /// The mark of OLD overlaps one that OLD makes before it and NEW behind it: one covers the other
+    /// otherwise.
     Covers,
 }
 
@@ -54,7 +56,7 @@ pub struct PageDifference {
 }
 
 /// The differences of two jobs, of which neither fails.
-#[derive(Debug, Drop)]
+#[derive(Drop)]
 pub struct Differences<A: Allocator> {
     /// The first ones, in their order.
     pub listed: Vec<PageDifference, A>,
@@ -65,7 +67,7 @@ pub struct Differences<A: Allocator> {
 }
 
 /// What comes of two jobs, OLD and NEW, on a printer.
-#[derive(Debug, Drop)]
+#[derive(Drop)]
 pub enum PageComparison<A: Allocator> {
     /// They print the same: OLD has so many pages and marks, and NEW as many.
     Same(Counts),
@@ -93,4 +95,12 @@ pub enum PagesError {
     TooManyMarks(PageOf),
     /// Memory was refused for the marks of a page, or for the differences.
     Memory,
+}
+
+impl From<AllocError> for PagesError {
+    ghost from_gives = { λ _ e. e ≡ Memory };
+
+    fn from(_error: AllocError) -> PagesError {
+        PagesError::Memory
+    }
 }

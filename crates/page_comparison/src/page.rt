@@ -5,7 +5,7 @@ ghost use Rattle.sinks.specs.Owned.{event_of, shape_of_owned};
 ghost use Rattle.page_comparison.specs.Pages.{made_page};
 ghost use Rattle.page_comparison.specs.Reading.{is_mark, new_page, page_at_end, page_with};
 
-use comparison::lent_mark;
+use comparison::lent;
 use page_env::PageEnd;
 use pcl_items::Place;
 use sinks::{OwnedEvent, OwnedMark};
@@ -86,8 +86,8 @@ impl<A: Allocator + Copy> Page<A> {
               ++ record { place = place; shape = shape_of_owned mark.now } ∷ [];
         }) }
     {
-        let lent = lent_mark(mark);
-        let copy = OwnedMark::copy_of(alloc, &lent)?;
+        let mark_lent = lent(mark);
+        let copy = OwnedMark::copy_of(alloc, &mark_lent)?;
         self.marks.push(PlacedMark { place, mark: copy })?;
         Ok(())
     }
