@@ -164,7 +164,7 @@ fn refuse_golden<R: Files + AllocGlobal, E: Outlet>(
     ensures refused { IfSome result (λ status. RefusesGolden (golden_for asked.now) status
         (E.state stderr.old) (E.state stderr.new)) }
 {
-    if are_inputs(asked.pairs) {
+    if names_input(asked) {
         return Some(refuse_words(INPUT_IN_FOLDER, stderr));
     }
     if asked.printers.len() <= 1 {
@@ -177,7 +177,13 @@ fn refuse_golden<R: Files + AllocGlobal, E: Outlet>(
 }
 
 /// Whether one of the new jobs is standard input.
-fn are_inputs(pairs: &[JobPair<'_>]) -> bool
+fn names_input(asked: &GoldenAsked<'_, '_>) -> bool
+    ensures { result ≡ names_input (golden_for asked.now) }
+{
+    has_input(asked.pairs)
+}
+
+fn has_input(pairs: &[JobPair<'_>]) -> bool
     ensures { result ≡ list_any (λ pair. is_input_of (names_of pair)) pairs.now }
 {
     pairs.iter().any(|pair| is_input_of(*pair))

@@ -1,18 +1,8 @@
-use Rattle.std.proofs.Common.{List, inl, inr, map, subst, sym, ℕ, ◌∙◌}
+use Rattle.std.proofs.Common.{List, inr, map, subst, sym, ℕ}
 use Rattle.std.specs.Prelude.{Contains}
 use Rattle.std.proofs.lemmas.Simd.{map-map}
 use Rattle.compare_command.specs.Golden.{names_of}
-use Rattle.many_requests.specs.GoldenJobs.{is_input_of}
-use Rattle.many_requests.proofs.GoldenLeft.{any_of_map}
 use Rattle.many_requests.proofs.golden_jobs.refuse_golden.Goals as goal
-
-pub returns-then-clause-refused : goal.returns-then-clause-refused
-returns-then-clause-refused g c =
-    inl (
-      any_of_map is_input_of names_of c.args.asked.now.pairs.now ∙ (sym c.are_inputs.ensures ∙ c.if-are_inputs.true),
-      c.refuse_words.ensures.status,
-      c.refuse_words.ensures.text,
-    )
 
 pub returns-in-Some-clause-refused : goal.returns-in-Some-clause-refused
 returns-in-Some-clause-refused g c =
