@@ -1,6 +1,6 @@
 //! Why two jobs are not compared.
 
-ghost use Rattle.std.specs.Prelude.{◌≡◌, ◌⊎◌, IsFalse, option_map};
+ghost use Rattle.std.specs.Prelude.{◌≡◌, ◌⊎◌, IsFalse};
 ghost use Rattle.comparison.specs.Running.{IsErrorOfJob};
 ghost use Rattle.compare_command.specs.Compare.{StopsAt, asked_for};
 ghost use Rattle.compare_command.specs.Golden.{name_by};
