@@ -1,2 +1,3 @@
-mod Finding
+mod Compared
 mod Names
+mod Pairs
