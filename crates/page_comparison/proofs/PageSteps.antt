@@ -88,11 +88,15 @@ grown_by made page = by_event made.event refl
         let pushed = length_push page.marks (record { place = made.place; shape = shape }) in omega (arith, pushed)
     by_event (Ended values) e = omega arith
 
-pub few_more : (made : Made) (page page' : MadePage) (n : ℕ) → page' ≡ page_with made page → length page.marks ≤ n →
-    length page'.marks ≤ n + 1
-few_more made page page' n is few =
-    let grown = grown_by made page in
-    subst (λ (p : MadePage). length p.marks ≤ n + 1) (sym is) (omega (arith, grown, few))
+pub few_more : (made : Made) (page page' : MadePage) → page' ≡ page_with made page →
+    length page'.marks ≤ length page.marks + 1
+few_more made page page' is =
+    subst (λ (p : MadePage). length p.marks ≤ length page.marks + 1) (sym is) (grown_by made page)
+
+pub few_at_end : (place : ℕ) (page page' : MadePage) → page' ≡ page_at_end place page →
+    length page'.marks ≤ length page.marks + 1
+few_at_end place page page' is =
+    subst (λ (p : MadePage). length p.marks ≤ length page.marks + 1) (sym is) (omega arith)
 
 -- what a mark leaves of the pages
 marked_front : (made : Made) (page : MadePage) (end : ℕ) (rest : List Made) → is_mark made.event ≡ true →

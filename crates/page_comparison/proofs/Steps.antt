@@ -107,29 +107,29 @@ module _ {A : Type 0} (old_place new_place : ℕ) where
       ∙ (sym (ap (λ l. kept_all l k) first) ∙ so_far))
 
   -- what one list has more is told behind the pairs
-  pub pairs_end : (xs ys : List (PlacedMark A)) (i : ℕ) → i ≤ min (length xs) (length ys) → min (length xs) (length ys) ≤ i →
-      (at : Standing) (k k' k'' k0 : Kept) → k' ≡ kept_all (only_old new_place at (made_marks (take (length xs - i) (drop i xs)))) k →
-      k'' ≡ kept_all (only_new old_place at (made_marks (take (length ys - i) (drop i ys)))) k' →
+  pub pairs_end : (xs ys : List (PlacedMark A)) (pairs i : ℕ) → pairs ≡ min (length xs) (length ys) → i ≡ pairs →
+      (at : Standing) (k k' k'' k0 : Kept) →
+      k' ≡ kept_all (only_old new_place at (made_marks (take (length xs - pairs) (drop pairs xs)))) k →
+      k'' ≡ kept_all (only_new old_place at (made_marks (take (length ys - pairs) (drop pairs ys)))) k' →
       kept_all (left_out old_place new_place at (made_marks (drop i xs)) (made_marks (drop i ys))) k ≡ k0 → k'' ≡ k0
-  pairs_end xs ys i within past at k k' k'' k0 of_old of_new so_far =
-      let one : List MadeMark = made_marks (drop i xs) in
-      let other : List MadeMark = made_marks (drop i ys) in
+  pairs_end xs ys pairs i pairs_are here at k k' k'' k0 of_old of_new so_far =
+      let one : List MadeMark = made_marks (drop pairs xs) in
+      let other : List MadeMark = made_marks (drop pairs ys) in
       let none : min (length one) (length other) ≡ 0 =
       omega
       (
         arith,
-        within,
-        past,
-        few_marks (drop i xs),
-        few_marks (drop i ys),
-        length_dropped xs i,
-        length_dropped ys i,
+        pairs_are,
+        few_marks (drop pairs xs),
+        few_marks (drop pairs ys),
+        length-drop pairs xs,
+        length-drop pairs ys,
       ) in
       of_new
-      ∙ ((λ j. kept_all (only_new old_place at (made_marks (take_rest ys i j))) k')
-      ∙ (ap (kept_all (only_new old_place at other)) (of_old ∙ (λ j. kept_all (only_old new_place at (made_marks (take_rest xs i j))) k))
+      ∙ ((λ j. kept_all (only_new old_place at (made_marks (take_rest ys pairs j))) k')
+      ∙ (ap (kept_all (only_new old_place at other))
+      (of_old ∙ (λ j. kept_all (only_old new_place at (made_marks (take_rest xs pairs j))) k))
       ∙ (sym (kept_all-append (only_old new_place at one) (only_new old_place at other) k)
-      ∙ (sym (ap (λ l. kept_all l k) (left_out_end old_place new_place at one other none)) ∙ so_far))))
-    where
-      length_dropped : (l : List (PlacedMark A)) (n : ℕ) → length (drop n l) ≡ length l - n
-      length_dropped l n = length-drop n l
+      ∙ (sym (ap (λ l. kept_all l k) (left_out_end old_place new_place at one other none))
+      ∙ (ap (λ n. kept_all (left_out old_place new_place at (made_marks (drop n xs)) (made_marks (drop n ys))) k) (sym here)
+      ∙ so_far)))))

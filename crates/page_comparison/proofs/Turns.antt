@@ -64,6 +64,15 @@ module _ {A : Type 0} (setting : Setting) where
       λ j. kept_all
       (in_order setting (sym (few_marks xs) j + sym (few_marks ys) j) (at_is j) (made_marks xs) (made_marks ys)) k
 
+  -- a turn over near marks tells nothing
+  pub turn_passed : (at : Standing) (old new : List MadeMark) (turn : Turn) (k : Kept) → turn.same ≡ true →
+      k ≡ kept_all (turn_told setting at old new turn) k
+  turn_passed at old new turn k same =
+      let left : List PageDifference =
+      left_out (next_place setting.old_end (drop turn.old old)) (next_place setting.new_end (drop turn.new new)) at
+      (take turn.old old) (take turn.new new) in
+      ap (λ (t : Bool). kept_all (if t then [] else left) k) (sym same)
+
   -- what a turn leaves out
   pub turn_left : (at : Standing) (xs ys : List (PlacedMark A)) (turn : Turn) (old_place new_place : ℕ) (k k' : Kept) →
       turn.same ≡ false →

@@ -118,7 +118,8 @@ impl<A: Allocator + Copy> Bag<A> {
         requires { place < length self.now.taken }
         ensures { result ≡ list_any (is_crossed place edges.now) self.now.earlier }
     {
-        if self.beyond <= place + 1 {
+        let last = self.beyond <= place + 1;
+        if last {
             return false;
         }
         is_crossed_by(place, edges, self.earlier.as_slice())
@@ -159,9 +160,16 @@ fn is_crossed_by(place: usize, edges: &Edges, earlier: &[Matched]) -> bool
     ensures { result ≡ list_any (is_crossed place edges.now) earlier.now }
 {
     for matched in earlier {
-        if place < matched.new && overlap(&matched.edges, edges) {
+        if crosses(place, edges, matched) {
             return true;
         }
     }
     false
+}
+
+/// Whether NEW makes an earlier mark behind the one at a place, and they overlap.
+fn crosses(place: usize, edges: &Edges, earlier: &Matched) -> bool
+    ensures { result ≡ is_crossed place edges.now earlier.now }
+{
+    place < earlier.new && overlap(&earlier.edges, edges)
 }

@@ -168,8 +168,8 @@ fn compare_page<A: Allocator + Copy>(
     nearness: Nearness,
     listing: &mut Listing<A>,
 ) -> Result<(), AllocError>
-    requires old { length (made_page one.now).marks ≤ 2 ^ 20 }
-    requires new { length (made_page other.now).marks ≤ 2 ^ 20 }
+    requires old { length (made_page one.now).marks ≤ 2 ^ 21 }
+    requires new { length (made_page other.now).marks ≤ 2 ^ 21 }
     ensures { OnOk result (listing.new
         ≡ page_kept nearness page (made_page one.now) (made_page other.now) listing.old) }
 {
@@ -194,8 +194,8 @@ fn tell_marks<A: Allocator + Copy>(
     other: &Page<A>,
     listing: &mut Listing<A>,
 ) -> Result<(), AllocError>
-    requires old { length (made_page one.now).marks ≤ 2 ^ 20 }
-    requires new { length (made_page other.now).marks ≤ 2 ^ 20 }
+    requires old { length (made_page one.now).marks ≤ 2 ^ 21 }
+    requires new { length (made_page other.now).marks ≤ 2 ^ 21 }
     ensures { OnOk result (listing.new ≡ kept_all (marks_compared any_order setting.now
         (made_page one.now).marks (made_page other.now).marks) listing.old) }
 {
@@ -214,8 +214,8 @@ fn tell_ends<A: Allocator>(
     other: &Page<A>,
     listing: &mut Listing<A>,
 ) -> Result<(), AllocError>
-    requires old { length (made_page one.now).marks ≤ 2 ^ 20 }
-    requires new { length (made_page other.now).marks ≤ 2 ^ 20 }
+    requires old { length (made_page one.now).marks ≤ 2 ^ 21 }
+    requires new { length (made_page other.now).marks ≤ 2 ^ 21 }
     ensures { OnOk result (listing.new
         ≡ kept_all (ends_compared page (made_page one.now) (made_page other.now)) listing.old) }
 {

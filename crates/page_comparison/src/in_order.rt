@@ -26,8 +26,8 @@ pub(crate) fn tell_in_order<A: Allocator>(
     new: &[PlacedMark<A>],
     listing: &mut Listing<A>,
 ) -> Result<(), AllocError>
-    requires old { length old.now ≤ 2 ^ 20 }
-    requires new { length new.now ≤ 2 ^ 20 }
+    requires old { length old.now ≤ 2 ^ 21 }
+    requires new { length new.now ≤ 2 ^ 21 }
     ensures { OnOk result (listing.new ≡ kept_all
         (all_in_order setting.now (made_marks old.now) (made_marks new.now)) listing.old) }
 {

@@ -1,6 +1,6 @@
 //! Reads the pages of a job that is carried out.
 
-ghost use Rattle.std.specs.Prelude.{◌≡◌, ◌≤◌, ◌^◌, [], IfErr, IfOk, IsFalse, OnOk, false, length, true};
+ghost use Rattle.std.specs.Prelude.{◌≡◌, ◌+◌, ◌≤◌, ◌^◌, [], IfErr, IfOk, IsFalse, OnOk, false, length};
 ghost use Rattle.comparison.specs.Comparing.{FollowsOn, still_made};
 ghost use Rattle.comparison.specs.Running.{is_open};
 ghost use Rattle.page_comparison.specs.Pages.{made_page};
@@ -37,7 +37,7 @@ pub(crate) fn read_page<S: Source, A: Allocator + Copy, P: Allocator>(
     requires { IsFalse (S.state source.old).failed }
     ensures read { IfOk result (λ page. ReadsPage (S.state source.old) (S.state source.new)
         job.old job.new (made_page page)) }
-    ensures few { IfOk result (λ page. length (made_page page).marks ≤ 2 ^ 20) }
+    ensures few { IfOk result (λ page. length (made_page page).marks ≤ 2 ^ 21) }
     ensures number { job.new.run.number ≡ job.old.run.number }
     ensures failed { (S.state source.new).failed ≡ is_unread page_of.which result }
     ensures err { IfErr result (λ error. IsOwnError page_of.which error × IsErrorOfPages error) }
@@ -61,7 +61,7 @@ fn fill_page<S: Source, A: Allocator + Copy, P: Allocator>(
     requires unended { is_over job.old ≡ false }
     ensures read { IfOk result (λ page. ReadsPage (S.state source.old) (S.state source.new)
         job.old job.new (made_page page)) }
-    ensures few { IfOk result (λ page. length (made_page page).marks ≤ 2 ^ 20) }
+    ensures few { IfOk result (λ page. length (made_page page).marks ≤ 2 ^ 21) }
     ensures number { job.new.run.number ≡ job.old.run.number }
     ensures failed { (S.state source.new).failed ≡ is_unread page_of.which result }
     ensures err { IfErr result (λ error. IsOwnError page_of.which error × IsErrorOfPages error) }
@@ -90,6 +90,8 @@ fn take_next<S: Source, A: Allocator + Copy, P: Allocator>(
     requires { IsFalse (S.state source.old).failed }
     ensures taken { IfOk result (λ came. TakesNext (S.state source.old) (S.state source.new)
         job.old job.new (made_page page.old) (made_page page.new) came) }
+    ensures few { OnOk result (length (made_page page.new).marks
+        ≤ length (made_page page.old).marks + 1) }
     ensures number { job.new.run.number ≡ job.old.run.number }
     ensures failed { (S.state source.new).failed ≡ is_unread page_of.which result }
     ensures err { IfErr result (λ error. IsOwnError page_of.which error × IsErrorOfPages error) }
@@ -108,6 +110,8 @@ fn take_event<A: Allocator + Copy, P: Allocator>(
     requires { still_made job.old ≡ [] → is_open job.old.run.progress ≡ false }
     ensures taken { IfOk result (λ came. TakesEvent job.old job.new
         (made_page page.old) (made_page page.new) came) }
+    ensures few { OnOk result (length (made_page page.new).marks
+        ≤ length (made_page page.old).marks + 1) }
     ensures number { job.new.run.number ≡ job.old.run.number }
 {
     let place = job.place();
