@@ -14,6 +14,7 @@ use Rattle.sinks.specs.declared.counts.Counts.{Counts}
 use Rattle.streams.specs.Pieces.{ByReads}
 use Rattle.streams.specs.Source.{SourceState}
 use Rattle.verdict.specs.declared.failure.Failure.{Failure}
+use Rattle.comparison.specs.declared.compare.Which.{Which}
 use Rattle.comparison.specs.declared.compare.Which.TheVariants.{Old, New}
 use Rattle.comparison.specs.Comparing.{Following, HasFollowed, is_unread_by, still_made}
 use Rattle.comparison.specs.Comparison.{Made, all_made, end_of, failure_on}
@@ -30,7 +31,7 @@ use Rattle.page_comparison.specs.Comparison.{IsPageComparison, NewFailing, OldFa
 use Rattle.page_comparison.specs.Comparison.{by_page, ends_compared, page_differences, pages_compared, pairs_of, same_or, setting_of}
 use Rattle.page_comparison.specs.Kept.{Kept, kept_all, kept_told, none_kept, page_kept, page_over, pages_kept}
 use Rattle.page_comparison.specs.Pages.{MadePage, no_page, page_counted, paired, pages_counted, pages_of}
-use Rattle.page_comparison.specs.Reading.{AreCompared, IsOwnError, IsRead, IsRight, MayCome, NewFailsRight, PagesGo, first_page, is_over}
+use Rattle.page_comparison.specs.Reading.{AreCompared, IsErrorOfPages, IsOwnError, IsRead, IsRight, MayCome, NewFailsRight, PagesGo, first_page, is_over}
 use Rattle.page_comparison.specs.Reading.{is_unread, is_unread_error, later_pages}
 use Rattle.page_comparison.proofs.Keeping.{told_of_kept}
 use Rattle.page_comparison.proofs.PageSteps.{over_tells}
@@ -351,3 +352,14 @@ pub no_read_of_new : (error : PagesError) → IsOwnError Old error → is_unread
 no_read_of_new (UnreadJob unread) h = ap (λ w. is_unread_by New w unread.error) h
 no_read_of_new (TooManyMarks page) h = refl
 no_read_of_new Memory h = refl
+
+-- so of a result whose errors are of OLD
+pub own_no_new : {T : Type 0} (r : Result T PagesError) → IfErr r (λ error. IsOwnError Old error × IsErrorOfPages error) →
+    is_unread New r ≡ false
+own_no_new (Ok x) h = refl
+own_no_new (Err error) h = no_read_of_new error h.0
+
+pub own_errors : {T : Type 0} (which : Which) (r : Result T PagesError) →
+    IfErr r (λ error. IsOwnError which error × IsErrorOfPages error) → IfErr r (λ error. IsErrorOfPages error)
+own_errors which (Ok x) h = tt
+own_errors which (Err error) h = h.1

@@ -102,7 +102,7 @@ fn compare_all<S: Source, T: Source, A: Allocator + Copy, P: Allocator>(
         }
         match second.failure() {
             None => {}
-            Some(failure) => return new_fails(old_job, first, failure),
+            Some(own) => return new_fails(old_job, first, own),
         }
         if are_over(first, second) {
             return Ok(listing.into_comparison(counts));

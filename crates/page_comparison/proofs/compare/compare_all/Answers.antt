@@ -1,10 +1,12 @@
 use Rattle.std.proofs.Common.{ap, refl, sym, ◌∙◌}
 use Rattle.std.proofs.lemmas.Bool.{and_parts}
 use Rattle.std.proofs.lemmas.Result.{IfOk-weaker, err_from_is_err_and}
+use Rattle.comparison.specs.declared.compare.Which.TheVariants.{Old}
 use Rattle.page_comparison.specs.Comparison.{told_pages}
 use Rattle.page_comparison.specs.Kept.{Kept}
 use Rattle.page_comparison.specs.Pages.{made_page}
-use Rattle.page_comparison.proofs.Ending.{go_further, go_none, no_read_of_new, no_read_of_old, old_fails, pages_over}
+use Rattle.page_comparison.specs.Reading.{NewFailsRight, PagesCompare}
+use Rattle.page_comparison.proofs.Ending.{go_further, go_none, no_read_of_new, no_read_of_old, old_fails, own_errors, own_no_new, pages_over}
 use Rattle.page_comparison.proofs.Keeping.{page_idle}
 use Rattle.page_comparison.proofs.compare.compare_all.Goals as goal
 
@@ -67,3 +69,74 @@ returns-then-are_over-clause-compared g c = λ printer panel number old_first ne
     (g.T.Source.state c.loop-page.new_job) c.loop-page.first c.loop-page.second c.loop-page.page c.loop-page.listing
     c.loop-page.counts go (so_far.old_number ∙ old_number) (so_far.new_number ∙ new_number) over.0 over.1 (sym c.in-None.ensures)
     (sym c.in-None-2.ensures) (told_pages c.into_comparison.result) c.into_comparison.ensures
+
+pub returns-in-Some-2-clause-compared : goal.returns-in-Some-2-clause-compared
+returns-in-Some-2-clause-compared g c =
+    let so_far = c.loop-page.invariant in
+    let old_now = g.S.Source.state c.loop-page.old_job in
+    let old_now' = g.S.Source.state c.new_fails.new.old_job in
+    let new_now = g.T.Source.state c.loop-page.new_job in
+    IfOk-weaker c.new_fails.result
+    (λ comparison. NewFailsRight old_now old_now' c.loop-page.first c.in-Some-2.own (told_pages comparison))
+    (λ comparison. PagesCompare c.args.nearness c.args.most (g.S.Source.state c.args.old_job.now) old_now'
+    (g.T.Source.state c.args.new_job.now) new_now c.args.first.now c.args.second.now (told_pages comparison))
+    (λ comparison right printer panel number old_first new_first of_old of_new old_number new_number.
+    let go = so_far.goes printer panel old_first new_first of_old of_new in
+    right c.args.nearness c.args.most number printer panel old_first new_first new_now c.loop-page.second go.old_taken go.new_taken
+    go.old_followed go.new_followed (so_far.old_number ∙ old_number) (so_far.new_number ∙ new_number) (sym c.in-Some-2.ensures))
+    c.new_fails.ensures.right
+
+-- ---- which job could not be read
+
+pub returns-in-Some-2-clause-new_read : goal.returns-in-Some-2-clause-new_read
+returns-in-Some-2-clause-new_read g c =
+    c.loop-page.invariant.new_working ∙ sym (own_no_new c.new_fails.result c.new_fails.ensures.err)
+
+pub returns-in-Some-2-clause-err : goal.returns-in-Some-2-clause-err
+returns-in-Some-2-clause-err g c = own_errors Old c.new_fails.result c.new_fails.ensures.err
+
+pub returns-in_err-one-clause-old_read : goal.returns-in_err-one-clause-old_read
+returns-in_err-one-clause-old_read g c =
+    let same = err_from_is_err_and c.from_residual.result c.from_residual.ensures.1 in
+    rw (same.1, same.2) c.in_err-one.ensures.failed
+
+pub returns-in_err-one-clause-new_read : goal.returns-in_err-one-clause-new_read
+returns-in_err-one-clause-new_read g c =
+    let same = err_from_is_err_and c.from_residual.result c.from_residual.ensures.1 in
+    rw (same.1, same.2)
+    (c.loop-page.invariant.new_working ∙ sym (no_read_of_new c.in_err-one.field-0.0 c.in_err-one.ensures.err.0))
+
+pub returns-in_err-one-clause-err : goal.returns-in_err-one-clause-err
+returns-in_err-one-clause-err g c =
+    let same = err_from_is_err_and c.from_residual.result c.from_residual.ensures.1 in
+    rw (same.1, same.2) c.in_err-one.ensures.err.1
+
+pub returns-in_err-other-clause-old_read : goal.returns-in_err-other-clause-old_read
+returns-in_err-other-clause-old_read g c =
+    let same = err_from_is_err_and c.from_residual.result c.from_residual.ensures.1 in
+    rw (same.1, same.2)
+    (c.in_ok-one.ensures.failed ∙ sym (no_read_of_old c.in_err-other.field-0.0 c.in_err-other.ensures.err.0))
+
+pub returns-in_err-other-clause-new_read : goal.returns-in_err-other-clause-new_read
+returns-in_err-other-clause-new_read g c =
+    let same = err_from_is_err_and c.from_residual.result c.from_residual.ensures.1 in
+    rw (same.1, same.2) c.in_err-other.ensures.failed
+
+pub returns-in_err-other-clause-err : goal.returns-in_err-other-clause-err
+returns-in_err-other-clause-err g c =
+    let same = err_from_is_err_and c.from_residual.result c.from_residual.ensures.1 in
+    rw (same.1, same.2) c.in_err-other.ensures.err.1
+
+pub returns-in_err-compare_page-clause-old_read : goal.returns-in_err-compare_page-clause-old_read
+returns-in_err-compare_page-clause-old_read g c =
+    let same = err_from_is_err_and c.from_residual.result c.from_residual.ensures.1 in
+    rw (same.1, same.2) c.in_ok-one.ensures.failed
+
+pub returns-in_err-compare_page-clause-new_read : goal.returns-in_err-compare_page-clause-new_read
+returns-in_err-compare_page-clause-new_read g c =
+    let same = err_from_is_err_and c.from_residual.result c.from_residual.ensures.1 in
+    rw (same.1, same.2) c.in_ok-other.ensures.failed
+
+pub returns-in_err-compare_page-clause-err : goal.returns-in_err-compare_page-clause-err
+returns-in_err-compare_page-clause-err g c =
+    let same = err_from_is_err_and c.from_residual.result c.from_residual.ensures.1 in rw (same.1, same.2) tt
