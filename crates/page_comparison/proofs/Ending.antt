@@ -1,13 +1,12 @@
 -- The pages of two jobs so far, and what comes of them in the end.
-use Rattle.std.proofs.Common.{◌≡◌, ◌+◌, ℕ, Bool, true, false, List, [], ◌∷◌, ◌++◌, map, Option, None, Some, Result, Ok, Err, IfErr, OnOk}
-use Rattle.std.proofs.Common.{ap, append-nil, append_assoc, if◌then◌else◌, refl, subst, sym, ◌∙◌}
+use Rattle.std.proofs.Common.{◌≡◌, ◌+◌, ℕ, Bool, true, false, List, [], ◌∷◌, ◌++◌, map, None, Some, Result, Ok, Err, IfErr}
+use Rattle.std.proofs.Common.{ap, append_assoc, if◌then◌else◌, refl, subst, sym, ◌∙◌}
 use Rattle.pcl_lexer.specs.Laws.{HasOneReading}
 use Rattle.pcl_lexer.specs.Lexing.Meaning.{MayBe}
 use Rattle.pcl_lexer.specs.Reading.{Reading, reading_of}
 use Rattle.pcl_lexer.proofs.Reading.Readings.{one_reading}
 use Rattle.device_profile.specs.declared.panel.Panel.{Panel}
 use Rattle.device_profile.specs.Printer.{Printer}
-use Rattle.page_machine.specs.Event.{Event}
 use Rattle.page_machine.specs.Job.{ItemRun, plain_run}
 use Rattle.sinks.specs.Counts.{capped, no_counts}
 use Rattle.sinks.specs.declared.counts.Counts.{Counts}
@@ -17,18 +16,17 @@ use Rattle.verdict.specs.declared.failure.Failure.{Failure}
 use Rattle.comparison.specs.declared.compare.Which.{Which}
 use Rattle.comparison.specs.declared.compare.Which.TheVariants.{Old, New}
 use Rattle.comparison.specs.Comparing.{Following, HasFollowed, is_unread_by, still_made}
-use Rattle.comparison.specs.Comparison.{Made, all_made, end_of, failure_on}
+use Rattle.comparison.specs.Comparison.{Made, failure_on}
 use Rattle.comparison.specs.Running.{HasEnded, HasRun, IsFailing, RunState, RunsOut, failure_of, is_open}
 use Rattle.comparison.proofs.Comparisons.{by_reads}
 use Rattle.comparison.proofs.Ends.{ends_by, fails_by, whole_job}
 use Rattle.comparison.proofs.Following.{none_still}
 use Rattle.page_comparison.specs.declared.differences.Nearness.{Nearness}
-use Rattle.page_comparison.specs.declared.differences.PageDifference.{PageDifference}
 use Rattle.page_comparison.specs.declared.differences.PagesError.{PagesError}
 use Rattle.page_comparison.specs.declared.differences.PagesError.TheVariants.{Unread as UnreadJob, TooManyMarks, Memory}
 use Rattle.page_comparison.specs.declared.setting.Setting.{Setting}
-use Rattle.page_comparison.specs.Comparison.{IsPageComparison, NewFailing, OldFailing, ToldPages, failing_or, listing_of, marks_compared}
-use Rattle.page_comparison.specs.Comparison.{by_page, ends_compared, page_differences, pages_compared, pairs_of, same_or, setting_of}
+use Rattle.page_comparison.specs.Comparison.{IsPageComparison, NewFailing, OldFailing, ToldPages, failing_or, marks_compared}
+use Rattle.page_comparison.specs.Comparison.{ends_compared, page_differences, pages_compared, pairs_of, same_or, setting_of}
 use Rattle.page_comparison.specs.Kept.{Kept, kept_all, kept_told, none_kept, page_kept, page_over, pages_kept}
 use Rattle.page_comparison.specs.Pages.{MadePage, no_page, page_counted, paired, pages_counted, pages_of}
 use Rattle.page_comparison.specs.Reading.{AreCompared, IsErrorOfPages, IsOwnError, IsRead, IsRight, MayCome, NewFailsRight, PagesGo, first_page, is_over}

@@ -1,20 +1,20 @@
 -- The marks of NEW that are matched, and those that are not.
-use Rattle.std.proofs.Common.{◌≡◌, ◌+◌, ◌<◌, ◌≤◌, ◌^◌, ℕ, zero, suc, Bool, true, false, not, ◌&&◌, ◌||◌, List, [], ◌∷◌, ◌++◌, length}
-use Rattle.std.proofs.Common.{Option, None, Some, add-zero, ap, arith, drop, get_or, if◌then◌else◌, map, max, min, nat_lt, option_map, refl}
+use Rattle.std.proofs.Common.{◌≡◌, ◌+◌, ◌<◌, ◌≤◌, ℕ, zero, suc, Bool, true, false, ◌&&◌, ◌||◌, List, [], ◌∷◌, ◌++◌, length}
+use Rattle.std.proofs.Common.{Option, None, Some, add-zero, ap, arith, drop, get_or, if◌then◌else◌, map, max, nat_lt, option_map, refl}
 use Rattle.std.proofs.Common.{replicate, set, slice_get, slice_set, sym, take, ◌==◌, ◌∙◌}
 use Rattle.std.specs.List.{AllByRecursion, list_any}
-use Rattle.std.proofs.lemmas.Bool.{eqb-false, eqb-true, le-ltb}
-use Rattle.std.proofs.lemmas.List.{at_drop_all, at_drop_more, length-map, length-set, replicate_more}
+use Rattle.std.proofs.lemmas.Bool.{eqb-true, le-ltb}
+use Rattle.std.proofs.lemmas.List.{at_drop_all, at_drop_more, length-map, length-set}
 use Rattle.std.proofs.lemmas.Option.{same_Some}
 use Rattle.page_comparison.specs.declared.bag.Matched.{Matched}
 use Rattle.page_comparison.specs.declared.differences.PageDifference.{PageDifference}
 use Rattle.page_comparison.specs.declared.edges.Edges.{Edges}
 use Rattle.page_comparison.specs.declared.page.PlacedMark.{PlacedMark}
 use Rattle.page_comparison.specs.declared.setting.Setting.{Setting}
-use Rattle.page_comparison.specs.AnyOrder.{Matching, all_in_any_order, first_free, free_told, in_any_order, is_crossed, is_match}
+use Rattle.page_comparison.specs.AnyOrder.{Matching, first_free, free_told, in_any_order, is_crossed, is_match}
 use Rattle.page_comparison.specs.AnyOrder.{mark_told, matched_with, none_matched}
 use Rattle.page_comparison.specs.Kept.{Kept, kept_all}
-use Rattle.page_comparison.specs.Marks.{is_near_mark, overlap}
+use Rattle.page_comparison.specs.Marks.{overlap}
 use Rattle.page_comparison.specs.Pages.{MadeMark, made_mark, made_marks}
 use Rattle.page_comparison.proofs.Keeping.{kept_all-append}
 
@@ -148,6 +148,7 @@ front_marked taken front place inside here marked n n_is = by_test (place == fro
         let first : t ≡ true = cc in
         let rest : take m l ≡ replicate m true = cc in
         λ j. first j ∷ kept m l i rest j
+
     grown_by : (m : ℕ) (l : List Bool) → m < length l → take m l ≡ replicate m true →
         take (suc m) (set l m true) ≡ replicate (suc m) true
     grown_by m [] lt e = absurd (omega (arith, lt))
@@ -157,11 +158,13 @@ front_marked taken front place inside here marked n n_is = by_test (place == fro
         let rest : take m l ≡ replicate m true = cc in
         let inside' : m < length l = omega (arith, lt) in
         λ j. first j ∷ grown_by m l inside' rest j
+
     grown : (m : ℕ) (l : List Bool) → m < length l → take m l ≡ replicate m true →
         take (m + 1) (set l m true) ≡ replicate (m + 1) true
     grown m l lt e =
         let step : m + 1 ≡ suc m = omega arith in
         ap (λ n. take n (set l m true)) step ∙ (grown_by m l lt e ∙ ap (λ n. replicate n true) (sym step))
+
     by_test : (t : Bool) → (place == front) ≡ t →
         (n ≤ length (slice_set taken place true)) × (take n (slice_set taken place true) ≡ replicate n true)
     by_test true e =

@@ -1,5 +1,5 @@
 -- What is kept of differences, one list after another, and what is told of it in the end.
-use Rattle.std.proofs.Common.{◌≡◌, ◌+◌, ◌-◌, ◌<◌, ◌≤◌, ◌^◌, ℕ, min, Bool, true, false, List, [], ◌∷◌, ◌++◌, length, take, flat_map}
+use Rattle.std.proofs.Common.{◌≡◌, ◌+◌, ◌<◌, ◌≤◌, ℕ, min, Bool, true, false, List, [], ◌∷◌, ◌++◌, length, take, flat_map}
 use Rattle.std.proofs.Common.{append-nil, append_assoc, ap, arith, cond, count_by, if◌then◌else◌, length-take, nat_lt, refl, subst, sym, ◌∙◌}
 use Rattle.std.proofs.Common.{take_all}
 use Rattle.std.proofs.lemmas.Bool.{le-ltb, lt-ltb, ltb-false, ltb-true}
@@ -35,6 +35,7 @@ kept_next most seen d kept h = by_test (nat_lt (length kept.listed) kept.most) r
   where
     long : length kept.listed ≡ min most (length seen)
     long = ap length h.listed ∙ length-take most seen
+
     by_test : (t : Bool) → nat_lt (length kept.listed) kept.most ≡ t → IsKept most (seen ++ d ∷ [])
         (if t then record kept { listed = kept.listed ++ d ∷ []; differs = true } else record kept { more = true; differs = true })
     by_test true e =

@@ -5,7 +5,6 @@ use Rattle.std.proofs.lemmas.Bool.{false≢true, not-true}
 use Rattle.std.proofs.lemmas.List.{drop-drop, length_push}
 use Rattle.device_profile.specs.declared.panel.Panel.{Panel}
 use Rattle.device_profile.specs.Printer.{Printer}
-use Rattle.page_env.specs.Mark.{Shape}
 use Rattle.page_machine.specs.Event.{Event, Marked, Ended}
 use Rattle.streams.specs.Source.{SourceState}
 use Rattle.comparison.specs.Comparing.{Following, FollowsOn, HasFollowed, next_of, still_made}
@@ -13,7 +12,7 @@ use Rattle.comparison.specs.Comparison.{Made}
 use Rattle.comparison.specs.Running.{HasRun, RunState, is_open, last_made}
 use Rattle.comparison.proofs.Following.{next_still}
 use Rattle.page_comparison.specs.Pages.{MadeMark, MadePage, last_page, no_page, pages_from, pages_of}
-use Rattle.page_comparison.specs.Reading.{Collects, IsFront, IsRead, MayCome, NextTaken, ReadsPage, TakesEvent, TakesNext, first_page}
+use Rattle.page_comparison.specs.Reading.{Collects, IsRead, ReadsPage, TakesEvent, TakesNext, first_page}
 use Rattle.page_comparison.specs.Reading.{is_mark, is_over, is_over_by, later_pages, new_page, page_at_end, page_with}
 
 -- ---- whether a job is over
@@ -36,6 +35,9 @@ over_tells following is = tells (next_of following) refl is
 drop_one : {X : Type 0} (n : ℕ) (xs ys : List X) (y : X) → drop n xs ≡ y ∷ ys → drop (n + 1) xs ≡ ys
 drop_one n xs ys y e = sym (drop-drop 1 n xs) ∙ ap (drop 1) e
 
+abbrev made_by : Event → ℕ → Made
+made_by event place = record { place = place; event = event }
+
 pub passed : (old new : Following) (place : ℕ) (event : Event) → place ≡ old.run.place → Some event ≡ next_of old →
     new ≡ record old { taken = old.taken + 1 } →
     (still_made old ≡ record { place = place; event = event } ∷ still_made new) × (new.run ≡ old.run)
@@ -43,12 +45,12 @@ passed old new place event place_is is new_is =
     let next = next_still old event (sym is) in
     let here : Following = record old { taken = old.taken + 1 } in
     let rest : still_made here ≡ next.0 =
-    drop_one old.taken (last_made old.run) next.0 (made_by old.run.place) next.1 in
-    let moved : made_by old.run.place ∷ next.0 ≡ made_by place ∷ still_made here = λ i. made_by (sym place_is i) ∷ sym rest i in
-    (next.1 ∙ (moved ∙ ap (λ (f : Following). made_by place ∷ still_made f) (sym new_is)), ap (λ (f : Following). f.run) new_is)
-  where
-    abbrev made_by : ℕ → Made
-    made_by n = record { place = n; event = event }
+    drop_one old.taken (last_made old.run) next.0 (made_by event old.run.place) next.1 in
+    let moved : made_by event old.run.place ∷ next.0 ≡ made_by event place ∷ still_made here =
+    λ i. made_by event (sym place_is i) ∷ sym rest i in (
+      next.1 ∙ (moved ∙ ap (λ (f : Following). made_by event place ∷ still_made f) (sym new_is)),
+      ap (λ (f : Following). f.run) new_is,
+    )
 
 module _ (now now' : SourceState) (old mid new : Following) (page page' : MadePage) (ran : FollowsOn now now' old mid) where
   taken_on : (goes_on : Bool) → TakesEvent mid new page page' (Some goes_on) → TakesNext now now' old new page page' (Some goes_on)
@@ -168,7 +170,7 @@ module _ (printer : Printer) (panel : Panel) (first now now' : SourceState) (tak
   read_ended start unended took =
       let next = took printer panel first (taken ++ so_far.made) so_far.followed in
       let pages_are : (rest : List Made) (end : ℕ) →
-          pages_of end ((so_far.made ++ next.0 ∷ []) ++ rest) ≡ page_with next.0 page ∷ pages_of end rest =
+      pages_of end ((so_far.made ++ next.0 ∷ []) ++ rest) ≡ page_with next.0 page ∷ pages_of end rest =
       λ rest end. behind_made next.0 rest end ∙ ended_front next.0 page end rest next.2 in
       record {
         made = so_far.made ++ next.0 ∷ [];
@@ -204,6 +206,7 @@ module _ (printer : Printer) (panel : Panel) (first now now' : SourceState) (tak
           first_page end (last_page end marks) ≡ record { marks = marks; end = None; place = end }
       last_first end [] = refl
       last_first end (mark ∷ marks) = refl
+
       last_later : (end : ℕ) (marks : List MadeMark) → later_pages (last_page end marks) ≡ []
       last_later end [] = refl
       last_later end (mark ∷ marks) = refl

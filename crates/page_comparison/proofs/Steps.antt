@@ -31,21 +31,21 @@ module _ {A : Type 0} where
 -- F tells of each mark by D, and goes on where B leads
 module _ {X : Type 0} (F : Standing → List X → List PageDifference) (D : Standing → X → PageDifference) (B : Standing → Standing)
     (opens : (at : Standing) (x : X) (xs : List X) → F at (x ∷ xs) ≡ D at x ∷ F (B at) xs) (none : (at : Standing) → F at [] ≡ [])
-    where
-  told_more : (xs : List X) (i : ℕ) (x : X) → i < length xs → x ≡ get_or xs i x → (at at' : Standing) → at' ≡ B at →
-      (d : PageDifference) → d ≡ D at x → (k k' k0 : Kept) → k' ≡ kept_with d k → kept_all (F at (drop i xs)) k ≡ k0 →
-      kept_all (F at' (drop (i + 1) xs)) k' ≡ k0
-  told_more xs i x inside is at at' at_is d d_is k k' k0 k_is so_far =
-      let rest : List X = drop (i + 1) xs in
-      let first : F at (drop i xs) ≡ D at x ∷ F (B at) rest =
-      at_drop_more (F at) xs i x inside ∙ (ap (λ y. F at (y ∷ rest)) (sym is) ∙ opens at x rest) in
-      ap (λ s. kept_all (F s rest) k') at_is
-      ∙ (ap (kept_all (F (B at) rest)) (k_is ∙ ap (λ e. kept_with e k) d_is)
-      ∙ (sym (ap (λ l. kept_all l k) first) ∙ so_far))
+  where
+    told_more : (xs : List X) (i : ℕ) (x : X) → i < length xs → x ≡ get_or xs i x → (at at' : Standing) → at' ≡ B at →
+        (d : PageDifference) → d ≡ D at x → (k k' k0 : Kept) → k' ≡ kept_with d k → kept_all (F at (drop i xs)) k ≡ k0 →
+        kept_all (F at' (drop (i + 1) xs)) k' ≡ k0
+    told_more xs i x inside is at at' at_is d d_is k k' k0 k_is so_far =
+        let rest : List X = drop (i + 1) xs in
+        let first : F at (drop i xs) ≡ D at x ∷ F (B at) rest =
+        at_drop_more (F at) xs i x inside ∙ (ap (λ y. F at (y ∷ rest)) (sym is) ∙ opens at x rest) in
+        ap (λ s. kept_all (F s rest) k') at_is
+        ∙ (ap (kept_all (F (B at) rest)) (k_is ∙ ap (λ e. kept_with e k) d_is)
+        ∙ (sym (ap (λ l. kept_all l k) first) ∙ so_far))
 
-  told_end : (xs : List X) (i : ℕ) → length xs ≤ i → (at : Standing) (k k0 : Kept) → kept_all (F at (drop i xs)) k ≡ k0 → k ≡ k0
-  told_end xs i past at k k0 so_far =
-      sym (ap (λ l. kept_all l k) (at_drop_all (F at) xs i past ∙ none at)) ∙ so_far
+    told_end : (xs : List X) (i : ℕ) → length xs ≤ i → (at : Standing) (k k0 : Kept) → kept_all (F at (drop i xs)) k ≡ k0 → k ≡ k0
+    told_end xs i past at k k0 so_far =
+        sym (ap (λ l. kept_all l k) (at_drop_all (F at) xs i past ∙ none at)) ∙ so_far
 
 module _ {A : Type 0} (place : ℕ) where
   abbrev old_from : Standing → List (PlacedMark A) → List PageDifference
@@ -116,8 +116,7 @@ module _ {A : Type 0} (old_place new_place : ℕ) where
       let one : List MadeMark = made_marks (drop pairs xs) in
       let other : List MadeMark = made_marks (drop pairs ys) in
       let none : min (length one) (length other) ≡ 0 =
-      omega
-      (
+      omega (
         arith,
         pairs_are,
         few_marks (drop pairs xs),

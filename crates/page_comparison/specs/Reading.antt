@@ -10,7 +10,6 @@ use Rattle.sinks.specs.declared.counts.Counts.{Counts}
 use Rattle.streams.specs.Pieces.{ByReads}
 use Rattle.streams.specs.Source.{SourceState}
 use Rattle.verdict.specs.declared.failure.Failure.{Failure}
-use Rattle.comparison.specs.declared.compare.Unread.{Unread}
 use Rattle.comparison.specs.declared.compare.Which.{Which}
 use Rattle.comparison.specs.Comparing.{Following, HasFollowed, is_unread_by, next_of, still_made}
 use Rattle.comparison.specs.Comparison.{Made}

@@ -62,12 +62,12 @@ fn tell_mark<A: Allocator + Copy>(
     requires few { length new.now ≤ 2 ^ 21 }
     ensures told { OnOk result (
         let found = first_free setting.now.within (made_mark mark.now) (made_marks new.now)
-            bag.old.taken in
+        bag.old.taken in
         listing.new ≡ kept_all (mark_told setting.now (made_marks new.now) number
         (made_mark mark.now) bag.old.earlier found) listing.old) }
     ensures matched { OnOk result (
         let found = first_free setting.now.within (made_mark mark.now) (made_marks new.now)
-            bag.old.taken in
+        bag.old.taken in
         bag.new ≡ matched_with (made_mark mark.now) found bag.old) }
 {
     match bag.find(mark, new, setting.within) {

@@ -71,7 +71,15 @@ pub fn compare_pages<S: Source, T: Source, A: Allocator + Copy, P: Allocator>(
     let panel = profile.first_panel();
     let mut first = Follower::new(alloc, profile, &panel, number);
     let mut second = Follower::new(alloc, profile, &panel, number);
-    compare_all(alloc, old_job, &mut first, new_job, &mut second, nearness, most)
+    compare_all(
+        alloc,
+        old_job,
+        &mut first,
+        new_job,
+        &mut second,
+        nearness,
+        most,
+    )
 }
 
 /// Compares all pages of two jobs of which nothing was read.

@@ -85,11 +85,7 @@ fn leaving(old: usize, new: usize) -> Turn
 
 /// The nearest way to go on alike, or else the next two marks are a pair.
 #[tactic(auto, unfolding(crate::specs::InOrder::nearest))]
-fn nearest<A: Allocator>(
-    old: &[PlacedMark<A>],
-    new: &[PlacedMark<A>],
-    within: u64,
-) -> Turn
+fn nearest<A: Allocator>(old: &[PlacedMark<A>], new: &[PlacedMark<A>], within: u64) -> Turn
     requires old { 0 < length old.now }
     requires new { 0 < length new.now }
     ensures turn { result ≡ nearest within (made_marks old.now) (made_marks new.now) }
