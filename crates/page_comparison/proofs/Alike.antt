@@ -182,11 +182,11 @@ leavings_leave together (suc times) some =
 found_in : {X : Type 0} (P : X → Type 0) (p : X → Bool) (xs : List X) (otherwise : X) → AllByRecursion P xs → P otherwise →
     P (unwrap_or (find p xs) otherwise)
 found_in P p [] otherwise h k = k
-found_in {X} P p (x ∷ xs) otherwise h k = by_test (p x)
+found_in P p (x ∷ xs) otherwise h k = by_test (p x) (found_in P p xs otherwise h.1 k)
   where
-    by_test : (t : Bool) → P (unwrap_or (cond t (Some x) (find p xs)) otherwise)
-    by_test true = h.0
-    by_test false = found_in P p xs otherwise h.1 k
+    by_test : (t : Bool) → P (unwrap_or (find p xs) otherwise) → P (unwrap_or (cond t (Some x) (find p xs)) otherwise)
+    by_test true rest = h.0
+    by_test false rest = rest
 
 nearest_leaves : (within : ℕ) (old new : List MadeMark) → IsLeaving (nearest within old new)
 unfolding nearest
@@ -229,16 +229,17 @@ module _ (setting : Setting) where
   ordered_near (suc turns) at [] [] few e = refl
   ordered_near (suc turns) at [] (b ∷ new) few e = absurd cc
   ordered_near (suc turns) at (a ∷ old) [] few e = absurd cc
-  ordered_near (suc turns) at (a ∷ old) (b ∷ new) few e = by_test (is_near_mark setting.within a b) refl e
+  ordered_near (suc turns) at (a ∷ old) (b ∷ new) few e =
+      by_test (is_near_mark setting.within a b) refl (λ fewer h. ordered_near turns (behind 1 1 at) old new fewer h) e
     where
       by_test : (t : Bool) → is_near_mark setting.within a b ≡ t →
+          (length old + length new ≤ turns → in_order setting turns (behind 1 1 at) old new ≡ [] →
+          all_near setting.within old new ≡ true) →
           turned turns at (a ∷ old) (b ∷ new)
           (if t then record { old = 1; new = 1; same = true } else nearest setting.within (a ∷ old) (b ∷ new)) ≡ [] →
           (is_near_mark setting.within a b && all_near setting.within old new) ≡ true
-      by_test true near h =
-          let fewer : length old + length new ≤ turns = omega (arith, few) in
-          and_from _ _ near (ordered_near turns (behind 1 1 at) old new fewer h)
-      by_test false other h =
+      by_test true near rest h = let fewer : length old + length new ≤ turns = omega (arith, few) in and_from _ _ near (rest fewer h)
+      by_test false other rest h =
           absurd
           (never_left turns at a b old new (nearest setting.within (a ∷ old) (b ∷ new))
           (nearest_leaves setting.within (a ∷ old) (b ∷ new)) h)

@@ -155,19 +155,20 @@ last_events end (mark ∷ marks) =
 pages_events : (end : ℕ) (marks : List MadeMark) (made : List Made) →
     all_events (pages_from end marks made) ≡ map Marked (shapes_of marks) ++ events_made made
 pages_events end marks [] = last_events end marks ∙ sym (append-nil (map Marked (shapes_of marks)))
-pages_events end marks (made ∷ rest) = by_kind made.event
+pages_events end marks (made ∷ rest) = by_kind (λ l. pages_events end l rest) made.event
   where
-    by_kind : (event : Event) →
+    by_kind : ((l : List MadeMark) → all_events (pages_from end l rest) ≡ map Marked (shapes_of l) ++ events_made rest) →
+        (event : Event) →
         all_events (pages_from end marks (record { place = made.place; event = event } ∷ rest))
         ≡ map Marked (shapes_of marks) ++ event ∷ events_made rest
-    by_kind (Marked shape) =
+    by_kind later (Marked shape) =
         let mark : MadeMark = record { place = made.place; shape = shape } in
-        pages_events end (marks ++ mark ∷ []) rest
+        later (marks ++ mark ∷ [])
         ∙ (ap (λ l. map Marked l ++ events_made rest) (map-append (λ (m : MadeMark). m.shape) marks (mark ∷ []))
         ∙ (ap (λ l. l ++ events_made rest) (map-append Marked (shapes_of marks) (shape ∷ []))
         ∙ append_assoc (map Marked (shapes_of marks)) (Marked shape ∷ []) (events_made rest)))
-    by_kind (Ended values) =
-        ap (λ l. (map Marked (shapes_of marks) ++ Ended values ∷ []) ++ l) (pages_events end [] rest)
+    by_kind later (Ended values) =
+        ap (λ l. (map Marked (shapes_of marks) ++ Ended values ∷ []) ++ l) (later [])
         ∙ append_assoc (map Marked (shapes_of marks)) (Ended values ∷ []) (events_made rest)
 
 same_ends : (a b : Option PageEnd) → are_same_ends a b ≡ true → end_events a ≡ end_events b
@@ -220,16 +221,17 @@ last_views end (mark ∷ marks) = refl
 page_views : (end : ℕ) (marks : List MadeMark) (made : List Made) →
     map view (pages_from end marks made) ≡ views (shapes_of marks) (events_made made)
 page_views end marks [] = last_views end marks
-page_views end marks (made ∷ rest) = by_kind made.event
+page_views end marks (made ∷ rest) = by_kind (λ l. page_views end l rest) made.event
   where
-    by_kind : (event : Event) →
+    by_kind : ((l : List MadeMark) → map view (pages_from end l rest) ≡ views (shapes_of l) (events_made rest)) →
+        (event : Event) →
         map view (pages_from end marks (record { place = made.place; event = event } ∷ rest))
         ≡ views (shapes_of marks) (event ∷ events_made rest)
-    by_kind (Marked shape) =
+    by_kind later (Marked shape) =
         let mark : MadeMark = record { place = made.place; shape = shape } in
-        page_views end (marks ++ mark ∷ []) rest
+        later (marks ++ mark ∷ [])
         ∙ ap (λ l. views l (events_made rest)) (map-append (λ (m : MadeMark). m.shape) marks (mark ∷ []))
-    by_kind (Ended values) = ap (λ l. (shapes_of marks, Some values) ∷ l) (page_views end [] rest)
+    by_kind later (Ended values) = ap (λ l. (shapes_of marks, Some values) ∷ l) (later [])
 
 ends_same : (a b : Option PageEnd) → a ≡ b → are_same_ends a b ≡ true
 ends_same None None e = refl
