@@ -63,14 +63,17 @@ none_count (page ∷ pages) h =
     let rest = none_count pages h.1 in omega (arith, counted, rest)
 
 module _ (nearness : Nearness) (most : ℕ) (pairs : List (MadePage × MadePage)) where
+  abbrev counted : ℕ
+  counted = capped (count_by differs (by_page nearness 1 pairs))
+
   same_none : (counts : Counts) → pages_compared nearness most pairs ≡ SamePages counts → AllEmpty (by_page nearness 1 pairs)
-  same_none counts e = by_test (capped (count_by differs (by_page nearness 1 pairs)) == 0) refl e
+  same_none counts e = by_test (counted == 0) refl e
     where
-      by_test : (t : Bool) → (capped (count_by differs (by_page nearness 1 pairs)) == 0) ≡ t →
+      by_test : (t : Bool) → (counted == 0) ≡ t →
           (if t then SamePages (pages_counted pairs no_counts) else OtherPages (listing_of most (by_page nearness 1 pairs)))
           ≡ SamePages counts → AllEmpty (by_page nearness 1 pairs)
       by_test true is h =
-          let none : capped (count_by differs (by_page nearness 1 pairs)) ≡ 0 = eqb-true (capped (count_by differs (by_page nearness 1 pairs))) 0 is in
+          let none : counted ≡ 0 = eqb-true counted 0 is in
           let none_counted : count_by differs (by_page nearness 1 pairs) ≡ 0 = omega (arith, none) in
           count_none (by_page nearness 1 pairs) none_counted
       by_test false is h = absurd cc
@@ -78,10 +81,10 @@ module _ (nearness : Nearness) (most : ℕ) (pairs : List (MadePage × MadePage)
   none_same : AllEmpty (by_page nearness 1 pairs) → pages_compared nearness most pairs ≡ SamePages (pages_counted pairs no_counts)
   none_same h =
       let none_counted = none_count (by_page nearness 1 pairs) h in
-      let none : capped (count_by differs (by_page nearness 1 pairs)) ≡ 0 = omega (arith, none_counted) in
+      let none : counted ≡ 0 = omega (arith, none_counted) in
       ap
       (λ (t : Bool). if t then SamePages (pages_counted pairs no_counts) else OtherPages (listing_of most (by_page nearness 1 pairs)))
-      (eq-eqb (capped (count_by differs (by_page nearness 1 pairs))) 0 none)
+      (eq-eqb counted 0 none)
 
 -- ---- one page
 

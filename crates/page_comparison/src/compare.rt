@@ -1,6 +1,8 @@
 //! Compares the pages of two jobs.
 
-ghost use Rattle.std.specs.Prelude.{◌≡◌, ◌≤◌, ◌^◌, ◌&&◌, IfErr, IfOk, IsFalse, OnOk, length, map};
+ghost use Rattle.std.specs.Prelude.{◌≡◌, ◌≤◌, ◌^◌, ◌&&◌, IfErr, IfOk, IsFalse, OnOk, false};
+ghost use Rattle.std.specs.Prelude.{length, map};
+ghost use Rattle.comparison.specs.Running.{RunsOut, failure_of, is_open};
 ghost use Rattle.device_profile.specs.Printer.{first_panel};
 ghost use Rattle.page_machine.specs.Event.{Marked, Ended};
 ghost use Rattle.preflight.specs.Same.{is_same_end};
@@ -155,11 +157,29 @@ fn new_fails<S: Source, A: Allocator + Copy, P: Allocator>(
     ensures read { (S.state old_job.new).failed ≡ is_unread Which.Old result }
     ensures err { IfErr result (λ error. IsOwnError Which.Old error × IsErrorOfPages error) }
 {
+    match last_failure(old_job, first) {
+        Ok(Some(own)) => Ok(PageComparison::OldFails(own)),
+        Ok(None) => Ok(PageComparison::NewFails(failure)),
+        Err(error) => Err(error),
+    }
+}
+
+/// Carries out the rest of OLD, and answers why it fails, if it does.
+fn last_failure<S: Source, A: Allocator + Copy, P: Allocator>(
+    old_job: &mut S,
+    first: &mut Follower<'_, A, P>,
+) -> Result<Option<Failure>, PagesError>
+    requires { IsFalse (S.state old_job.old).failed }
+    ensures failure { IfOk result (λ failure. failure ≡ failure_of first.new.run.progress) }
+    ensures run { OnOk result (RunsOut (S.state old_job.old) (S.state old_job.new)
+        first.old.run first.new.run) }
+    ensures over { OnOk result (is_open first.new.run.progress ≡ false) }
+    ensures number { first.new.run.number ≡ first.old.run.number }
+    ensures read { (S.state old_job.new).failed ≡ is_unread Which.Old result }
+    ensures err { IfErr result (λ error. IsOwnError Which.Old error × IsErrorOfPages error) }
+{
     match first.run_out(old_job) {
-        Ok(()) => match first.failure() {
-            Some(own) => Ok(PageComparison::OldFails(own)),
-            None => Ok(PageComparison::NewFails(failure)),
-        },
+        Ok(()) => Ok(first.failure()),
         Err(error) => Err(PagesError::Unread(Unread {
             which: Which::Old,
             error,
