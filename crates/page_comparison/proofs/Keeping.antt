@@ -74,6 +74,24 @@ kept_over most seen kept h = by_test kept.differs
     by_test true = record { most_is = h.most_is; listed = h.listed; more = h.more }
     by_test false = h
 
+-- ---- one difference more
+
+pub kept_room : (d : PageDifference) (kept : Kept) → length kept.listed < kept.most →
+    kept_with d kept ≡ record kept { listed = kept.listed ++ d ∷ []; differs = true }
+kept_room d kept room =
+    ap
+    (λ (t : Bool). if t then record kept { listed = kept.listed ++ d ∷ []; differs = true }
+    else record kept { more = true; differs = true })
+    (lt-ltb (length kept.listed) kept.most room)
+
+pub kept_full : (d : PageDifference) (kept : Kept) → kept.most ≤ length kept.listed →
+    kept_with d kept ≡ record kept { more = true; differs = true }
+kept_full d kept full =
+    ap
+    (λ (t : Bool). if t then record kept { listed = kept.listed ++ d ∷ []; differs = true }
+    else record kept { more = true; differs = true })
+    (le-ltb (length kept.listed) kept.most full)
+
 -- ---- the pages that differ
 
 with_differs : (d : PageDifference) (kept : Kept) → (kept_with d kept).differs ≡ true
@@ -134,7 +152,7 @@ abbrev joined : List (List PageDifference) → List PageDifference
 joined pages = flat_map (λ page. page) pages
 
 record IsListed (most : ℕ) (seen : List (List PageDifference)) (kept : Kept) : Type 0 where
-  kept : IsKept most (joined seen) kept
+  so_far : IsKept most (joined seen) kept
   pages : kept.pages ≡ capped (count_by differs seen)
   idle : kept.differs ≡ false
 
@@ -145,9 +163,9 @@ page_listed most seen ds kept h =
     let joined_is : joined (seen ++ ds ∷ []) ≡ joined seen ++ ds =
     flat_map-append (λ page. page) seen (ds ∷ []) ∙ ap (λ l. joined seen ++ l) (append-nil ds) in
     record {
-      kept =
+      so_far =
           subst (λ l. IsKept most l (page_over behind)) (sym joined_is)
-          (kept_over most (joined seen ++ ds) behind (kept_list most ds (joined seen) kept h.kept));
+          (kept_over most (joined seen ++ ds) behind (kept_list most ds (joined seen) kept h.so_far));
       pages =
           over_pages (differs ds) behind (kept_differs ds kept h.idle)
           ∙ (counted_on behind.pages (count_by differs seen) (differs ds) (kept_pages ds kept ∙ h.pages)
@@ -172,12 +190,12 @@ pub told_of_kept : (nearness : Nearness) (most : ℕ) (pairs : List (MadePage ×
 told_of_kept nearness most pairs =
     let none : IsListed most [] (none_kept most) =
     record {
-      kept = record { most_is = refl; listed = none_listed most; more = sym (le-ltb most 0 (omega arith)) };
+      so_far = record { most_is = refl; listed = none_listed most; more = sym (le-ltb most 0 (omega arith)) };
       pages = refl;
       idle = refl;
     } in
     let all = pages_listed nearness most pairs 1 [] (none_kept most) none in
-    λ i. record { listed = all.kept.listed i; more = all.kept.more i; pages = all.pages i }
+    λ i. record { listed = all.so_far.listed i; more = all.so_far.more i; pages = all.pages i }
   where
     none_listed : (n : ℕ) → [] ≡ take n (joined [])
     none_listed n = sym (take_all n [] (omega arith))

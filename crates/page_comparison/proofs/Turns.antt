@@ -1,12 +1,13 @@
 -- The turns of two pages in their order.
-use Rattle.std.proofs.Common.{◌≡◌, ◌+◌, ◌-◌, ◌<◌, ◌≤◌, ℕ, suc, Bool, true, false, List, [], ◌∷◌, ◌++◌, ◌&&◌, length, take, drop, get_or}
+use Rattle.std.proofs.Common.{◌≡◌, ◌+◌, ◌-◌, ◌<◌, ◌≤◌, ℕ, suc, Bool, true, false, List, [], ◌∷◌, ◌++◌, length, take, drop, get_or}
 use Rattle.std.proofs.Common.{ap, arith, if◌then◌else◌, refl, sym, ◌∙◌}
+use Rattle.std.proofs.lemmas.List.{nil_from_length, take_rest}
 use Rattle.page_comparison.specs.declared.differences.PageDifference.{PageDifference}
 use Rattle.page_comparison.specs.declared.page.PlacedMark.{PlacedMark}
 use Rattle.page_comparison.specs.declared.setting.Setting.{Setting}
 use Rattle.page_comparison.specs.declared.standing.Standing.{Standing}
 use Rattle.page_comparison.specs.declared.turn.Turn.{Turn}
-use Rattle.page_comparison.specs.InOrder.{all_in_order, go_alike, in_order, leaving, nearest, next_near, turn_of, turn_told}
+use Rattle.page_comparison.specs.InOrder.{all_in_order, in_order, leaving, nearest, next_near, turn_of, turn_told}
 use Rattle.page_comparison.specs.Kept.{Kept, kept_all}
 use Rattle.page_comparison.specs.Marks.{is_near_mark}
 use Rattle.page_comparison.specs.Pages.{MadeMark, made_mark, made_marks}
@@ -97,9 +98,18 @@ module _ {A : Type 0} (setting : Setting) where
 
 -- ---- the next turn
 
-first_of : {X : Type 0} (xs : List X) (x : X) → 0 < length xs → x ≡ get_or xs 0 x → xs ≡ x ∷ drop 1 xs
+pub first_of : {X : Type 0} (xs : List X) (x : X) → 0 < length xs → x ≡ get_or xs 0 x → xs ≡ x ∷ drop 1 xs
 first_of [] x some is = absurd (omega (arith, some))
 first_of (y ∷ ys) x some is = ap (λ z. z ∷ ys) (sym is)
+
+-- a first mark and the rest, as a pattern gives them
+pub first_and_rest : {A : Type 0} (xs : List (PlacedMark A)) (x : PlacedMark A) → 0 < length xs → x ≡ get_or xs 0 x →
+    made_mark x ∷ made_marks (take (length xs - 1) (drop 1 xs)) ≡ made_marks xs
+first_and_rest xs x some is =
+    ap (λ l. made_mark x ∷ made_marks l) (take_rest xs 1) ∙ ap made_marks (sym (first_of xs x some is))
+
+pub no_marks : {A : Type 0} (xs : List (PlacedMark A)) → length xs ≡ 0 → made_marks xs ≡ []
+no_marks xs none = ap made_marks (nil_from_length xs none)
 
 module _ {A : Type 0} (within : ℕ) (xs ys : List (PlacedMark A)) where
   pub turn_heads : (x y : PlacedMark A) → 0 < length xs → 0 < length ys → x ≡ get_or xs 0 x → y ≡ get_or ys 0 y →
@@ -130,14 +140,23 @@ module _ {A : Type 0} (within : ℕ) (xs ys : List (PlacedMark A)) where
       by_marks (x ∷ l) [] e = ap (λ n. leaving n 0) (sym (few_marks (x ∷ l)))
       by_marks l (y ∷ m) e = absurd (omega (arith, e))
 
-  -- where both go on alike
-  pub alike_heads : (x y : PlacedMark A) → 0 < length xs → 0 < length ys → x ≡ get_or xs 0 x → y ≡ get_or ys 0 y →
-      go_alike within (made_marks xs) (made_marks ys)
-      ≡ (is_near_mark within (made_mark x) (made_mark y) && next_near within (made_marks (drop 1 xs)) (made_marks (drop 1 ys)))
-  alike_heads x y in_xs in_ys x_is y_is =
-      λ j. go_alike within (made_marks (first_of xs x in_xs x_is j)) (made_marks (first_of ys y in_ys y_is j))
-
   pub near_heads : (x y : PlacedMark A) → 0 < length xs → 0 < length ys → x ≡ get_or xs 0 x → y ≡ get_or ys 0 y →
       next_near within (made_marks xs) (made_marks ys) ≡ is_near_mark within (made_mark x) (made_mark y)
   near_heads x y in_xs in_ys x_is y_is =
       λ j. next_near within (made_marks (first_of xs x in_xs x_is j)) (made_marks (first_of ys y in_ys y_is j))
+
+  pub near_no_old : length xs ≡ 0 → true ≡ next_near within (made_marks xs) (made_marks ys)
+  near_no_old none = by_marks (made_marks xs) (made_marks ys) (no_marks xs none)
+    where
+      by_marks : (l m : List MadeMark) → l ≡ [] → true ≡ next_near within l m
+      by_marks [] [] e = refl
+      by_marks [] (b ∷ m) e = refl
+      by_marks (a ∷ l) m e = cc
+
+  pub near_no_new : length ys ≡ 0 → true ≡ next_near within (made_marks xs) (made_marks ys)
+  near_no_new none = by_marks (made_marks xs) (made_marks ys) (no_marks ys none)
+    where
+      by_marks : (l m : List MadeMark) → m ≡ [] → true ≡ next_near within l m
+      by_marks [] [] e = refl
+      by_marks (a ∷ l) [] e = refl
+      by_marks l (b ∷ m) e = cc
