@@ -1,6 +1,6 @@
 -- What the relations of two jobs have to do with each other.
 use Rattle.std.proofs.Common.{◌≡◌, ◌+◌, ◌==◌, ℕ, Bool, true, false, List, [], ◌∷◌, ◌++◌, Option, None, Some, ap, append-nil}
-use Rattle.std.proofs.Common.{append_assoc, arith, cond, count_by, if◌then◌else◌, length, map, refl, sum_by, sym, ◌∙◌}
+use Rattle.std.proofs.Common.{append_assoc, arith, cond, count_by, if◌then◌else◌, length, map, refl, sym, ◌∙◌}
 use Rattle.std.specs.List.{AllByRecursion}
 use Rattle.std.proofs.lemmas.Bool.{eqb-true, eq-eqb, false≢true}
 use Rattle.std.proofs.lemmas.List.{map-append}

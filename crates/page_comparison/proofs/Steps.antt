@@ -1,5 +1,5 @@
 -- A loop over marks that tells what is left out: how it goes on, and how it ends.
-use Rattle.std.proofs.Common.{◌≡◌, ◌+◌, ◌-◌, ◌<◌, ◌≤◌, ℕ, min, List, [], ◌∷◌, ◌++◌, length, map, take, drop, get_or}
+use Rattle.std.proofs.Common.{◌≡◌, ◌+◌, ◌-◌, ◌<◌, ◌≤◌, ℕ, min, List, [], ◌∷◌, ◌++◌, length, take, drop, get_or}
 use Rattle.std.proofs.Common.{append-nil, ap, arith, length-drop, refl, sym, ◌∙◌}
 use Rattle.std.proofs.lemmas.List.{at_drop_all, at_drop_more, drop-map, length-map, take-map, take_rest}
 use Rattle.page_comparison.specs.declared.differences.PageChange.TheVariants.{OnlyInOld, OnlyInNew}
