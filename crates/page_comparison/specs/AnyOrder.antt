@@ -1,5 +1,5 @@
 -- The marks of two pages in any order.
-use Rattle.std.specs.Prelude.{ℕ, ◌+◌, nat_lt, Bool, true, false, ◌&&◌, List, [], ◌∷◌, ◌++◌, length, drop, map}
+use Rattle.std.specs.Prelude.{ℕ, ◌+◌, nat_lt, Bool, true, false, not, ◌&&◌, List, [], ◌∷◌, ◌++◌, length, drop, map}
 use Rattle.std.specs.Prelude.{Option, None, Some, option_map, slice_set, if◌then◌else◌}
 use Rattle.std.specs.List.{list_any}
 use Rattle.page_comparison.specs.declared.bag.Matched.{Matched}
@@ -12,13 +12,15 @@ use Rattle.page_comparison.specs.Marks.{edges_of, is_near_mark, overlap}
 use Rattle.page_comparison.specs.Pages.{MadeMark}
 use Rattle.page_comparison.specs.Told.{difference_at, next_place}
 
+abbrev pub is_match : ℕ → (a b : MadeMark) → (taken : Bool) → Bool
+is_match within a b taken = not taken && is_near_mark within a b
+
 -- the place in NEW of the first mark that is near this one and not matched yet
 abbrev pub first_free : ℕ → MadeMark → List MadeMark → List Bool → Option ℕ
 first_free within a [] taken = None
 first_free within a (b ∷ new) [] = None
-first_free within a (b ∷ new) (true ∷ taken) = option_map (λ i. i + 1) (first_free within a new taken)
-first_free within a (b ∷ new) (false ∷ taken) =
-    if is_near_mark within a b then Some 0 else option_map (λ i. i + 1) (first_free within a new taken)
+first_free within a (b ∷ new) (t ∷ taken) =
+    if is_match within a b t then Some 0 else option_map (λ i. i + 1) (first_free within a new taken)
 
 -- which marks of NEW are matched, and with what boxes of OLD, in OLD's order
 pub record Matching : Type 0 where
@@ -45,9 +47,9 @@ abbrev pub mark_told : Setting → List MadeMark → (number : ℕ) → MadeMark
 mark_told setting new number a earlier None =
     difference_at (stand_at setting.page number (length new + 1)) a.place setting.new_end OnlyInOld ∷ []
 mark_told setting new number a earlier (Some i) =
+    let next = next_place setting.new_end (drop i new) in
     if list_any (is_crossed i (edges_of a.shape)) earlier
-    then difference_at (stand_at setting.page number (i + 1)) a.place (next_place setting.new_end (drop i new)) Covers ∷ []
-    else []
+    then difference_at (stand_at setting.page number (i + 1)) a.place next Covers ∷ [] else []
 
 -- the marks of NEW from this number on that have no match
 abbrev pub free_told : Setting → (old_mark number : ℕ) → List MadeMark → List Bool → List PageDifference

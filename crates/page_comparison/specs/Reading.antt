@@ -10,9 +10,8 @@ use Rattle.sinks.specs.declared.counts.Counts.{Counts}
 use Rattle.streams.specs.Pieces.{ByReads}
 use Rattle.streams.specs.Source.{SourceState}
 use Rattle.verdict.specs.declared.failure.Failure.{Failure}
-use Rattle.comparison.specs.declared.compare.Unread.{Unread}
 use Rattle.comparison.specs.declared.compare.Which.{Which}
-use Rattle.comparison.specs.Comparing.{Following, HasFollowed, is_unread_by, next_of}
+use Rattle.comparison.specs.Comparing.{Following, HasFollowed, is_unread_by, next_of, still_made}
 use Rattle.comparison.specs.Comparison.{Made}
 use Rattle.comparison.specs.Running.{IsErrorOfJob, failure_of, is_open}
 use Rattle.page_comparison.specs.declared.differences.Nearness.{Nearness}
@@ -32,7 +31,7 @@ is_over_by None open_still = not open_still
 abbrev pub is_over : Following → Bool
 is_over following = is_over_by (next_of following) (is_open following.run.progress)
 
--- it may still make this, and end at this place; of a job that is over nothing more comes, and its end is where it stands
+-- it may still make this, and end at this place; of a job that is over nothing more comes, and it ends where it stands
 abbrev pub MayCome : Following → List Made → ℕ → Type 0
 MayCome following rest end = is_over following ≡ true → (rest ≡ []) × (end ≡ following.run.place)
 
@@ -55,6 +54,14 @@ page_with made page =
 -- the job is over, and the page ends where it does
 abbrev pub page_at_end : ℕ → MadePage → MadePage
 page_at_end place page = record page { place = place }
+
+-- the event that has come is taken; or none has, and the job is over
+abbrev pub TakesEvent : (old new : Following) → (page page' : MadePage) → Option Bool → Type 0
+TakesEvent old new page page' (Some goes_on) =
+    (made : Made) × (still_made old ≡ made ∷ still_made new) × (new.run ≡ old.run) × (is_mark made.event ≡ goes_on)
+    × (page' ≡ page_with made page)
+TakesEvent old new page page' None =
+    (new ≡ old) × (is_over old ≡ true) × (page' ≡ page_at_end old.run.place page)
 
 -- behind what was made so far this came next, and is on the page, which goes on where it is a mark; or the job is over
 abbrev pub NextTaken : Option Bool → Printer → Panel → (first now : SourceState) → List Made → Following →
@@ -83,11 +90,12 @@ later_pages (page ∷ pages) = pages
 -- of what was made and what comes behind it, this page is the first, and those behind it come next
 abbrev pub IsFront : ℕ → MadePage → (made rest : List Made) → Type 0
 IsFront end page made rest =
-    (first_page end (pages_of end (made ++ rest)) ≡ page) × (later_pages (pages_of end (made ++ rest)) ≡ pages_of end rest)
+    (first_page end (pages_of end (made ++ rest)) ≡ page)
+    × (later_pages (pages_of end (made ++ rest)) ≡ pages_of end rest)
 
 -- a page was read behind what was made before; of a job that is over nothing more is read
-pub record IsRead (printer : Printer) (panel : Panel) (first now : SourceState) (taken : List Made) (old new : Following)
-    (page : MadePage) : Type 0 where
+pub record IsRead (printer : Printer) (panel : Panel) (first now : SourceState) (taken : List Made)
+    (old new : Following) (page : MadePage) : Type 0 where
   pub made : List Made
   pub followed : HasFollowed printer panel first now (taken ++ made) new
   pub front : (rest : List Made) (end : ℕ) → MayCome new rest end → IsFront end page made rest
@@ -146,8 +154,8 @@ IsRight nearness most number printer panel old_first old_now new_first new_now t
     ByReads old_first old_now (λ old. ByReads new_first new_now (λ new.
     IsPageComparison nearness most number printer panel old new told))
 
--- Of two jobs that were followed so far NEW fails so, and OLD is carried out to its end from here: whatever the relation
--- is, that is right.
+-- Of two jobs that were followed so far NEW fails so, and OLD is carried out to its end from here: this is right,
+-- whatever the relation is.
 abbrev pub NewFailsRight : (old_now old_now' : SourceState) → (old : Following) → Failure → ToldPages → Type 0
 NewFailsRight old_now old_now' old failure told =
     (nearness : Nearness) (most number : ℕ) (printer : Printer) (panel : Panel)

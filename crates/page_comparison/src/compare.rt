@@ -1,6 +1,8 @@
 //! Compares the pages of two jobs.
 
-ghost use Rattle.std.specs.Prelude.{◌≡◌, ◌≤◌, ◌^◌, ◌&&◌, IfErr, IfOk, IsFalse, OnOk, length, map};
+ghost use Rattle.std.specs.Prelude.{◌≡◌, ◌≤◌, ◌^◌, ◌&&◌, IfErr, IfOk, IsFalse, OnOk, false};
+ghost use Rattle.std.specs.Prelude.{length, map};
+ghost use Rattle.comparison.specs.Running.{RunsOut, failure_of, is_open};
 ghost use Rattle.device_profile.specs.Printer.{first_panel};
 ghost use Rattle.page_machine.specs.Event.{Marked, Ended};
 ghost use Rattle.preflight.specs.Same.{is_same_end};
@@ -71,7 +73,15 @@ pub fn compare_pages<S: Source, T: Source, A: Allocator + Copy, P: Allocator>(
     let panel = profile.first_panel();
     let mut first = Follower::new(alloc, profile, &panel, number);
     let mut second = Follower::new(alloc, profile, &panel, number);
-    compare_all(alloc, old_job, &mut first, new_job, &mut second, nearness, most)
+    compare_all(
+        alloc,
+        old_job,
+        &mut first,
+        new_job,
+        &mut second,
+        nearness,
+        most,
+    )
 }
 
 /// Compares all pages of two jobs of which nothing was read.
@@ -102,7 +112,7 @@ fn compare_all<S: Source, T: Source, A: Allocator + Copy, P: Allocator>(
         }
         match second.failure() {
             None => {}
-            Some(failure) => return new_fails(old_job, first, failure),
+            Some(own) => return new_fails(old_job, first, own),
         }
         if are_over(first, second) {
             return Ok(listing.into_comparison(counts));
@@ -147,11 +157,29 @@ fn new_fails<S: Source, A: Allocator + Copy, P: Allocator>(
     ensures read { (S.state old_job.new).failed ≡ is_unread Which.Old result }
     ensures err { IfErr result (λ error. IsOwnError Which.Old error × IsErrorOfPages error) }
 {
+    match last_failure(old_job, first) {
+        Ok(Some(own)) => Ok(PageComparison::OldFails(own)),
+        Ok(None) => Ok(PageComparison::NewFails(failure)),
+        Err(error) => Err(error),
+    }
+}
+
+/// Carries out the rest of OLD, and answers why it fails, if it does.
+fn last_failure<S: Source, A: Allocator + Copy, P: Allocator>(
+    old_job: &mut S,
+    first: &mut Follower<'_, A, P>,
+) -> Result<Option<Failure>, PagesError>
+    requires { IsFalse (S.state old_job.old).failed }
+    ensures failure { IfOk result (λ failure. failure ≡ failure_of first.new.run.progress) }
+    ensures run { OnOk result (RunsOut (S.state old_job.old) (S.state old_job.new)
+        first.old.run first.new.run) }
+    ensures over { OnOk result (is_open first.new.run.progress ≡ false) }
+    ensures number { first.new.run.number ≡ first.old.run.number }
+    ensures read { (S.state old_job.new).failed ≡ is_unread Which.Old result }
+    ensures err { IfErr result (λ error. IsOwnError Which.Old error × IsErrorOfPages error) }
+{
     match first.run_out(old_job) {
-        Ok(()) => match first.failure() {
-            Some(own) => Ok(PageComparison::OldFails(own)),
-            None => Ok(PageComparison::NewFails(failure)),
-        },
+        Ok(()) => Ok(first.failure()),
         Err(error) => Err(PagesError::Unread(Unread {
             which: Which::Old,
             error,
@@ -168,8 +196,8 @@ fn compare_page<A: Allocator + Copy>(
     nearness: Nearness,
     listing: &mut Listing<A>,
 ) -> Result<(), AllocError>
-    requires old { length one.now.marks.items ≤ 2 ^ 20 }
-    requires new { length other.now.marks.items ≤ 2 ^ 20 }
+    requires old { length (made_page one.now).marks ≤ 2 ^ 21 }
+    requires new { length (made_page other.now).marks ≤ 2 ^ 21 }
     ensures { OnOk result (listing.new
         ≡ page_kept nearness page (made_page one.now) (made_page other.now) listing.old) }
 {
@@ -194,8 +222,8 @@ fn tell_marks<A: Allocator + Copy>(
     other: &Page<A>,
     listing: &mut Listing<A>,
 ) -> Result<(), AllocError>
-    requires old { length one.now.marks.items ≤ 2 ^ 20 }
-    requires new { length other.now.marks.items ≤ 2 ^ 20 }
+    requires old { length (made_page one.now).marks ≤ 2 ^ 21 }
+    requires new { length (made_page other.now).marks ≤ 2 ^ 21 }
     ensures { OnOk result (listing.new ≡ kept_all (marks_compared any_order setting.now
         (made_page one.now).marks (made_page other.now).marks) listing.old) }
 {
@@ -214,8 +242,8 @@ fn tell_ends<A: Allocator>(
     other: &Page<A>,
     listing: &mut Listing<A>,
 ) -> Result<(), AllocError>
-    requires old { length one.now.marks.items ≤ 2 ^ 20 }
-    requires new { length other.now.marks.items ≤ 2 ^ 20 }
+    requires old { length (made_page one.now).marks ≤ 2 ^ 21 }
+    requires new { length (made_page other.now).marks ≤ 2 ^ 21 }
     ensures { OnOk result (listing.new
         ≡ kept_all (ends_compared page (made_page one.now) (made_page other.now)) listing.old) }
 {

@@ -1,6 +1,6 @@
 //! The boxes of marks, and whether they overlap.
 
-ghost use Rattle.std.specs.Prelude.{◌≡◌, ◌*◌, length};
+ghost use Rattle.std.specs.Prelude.{◌≡◌, ◌*◌, ◌<◌, ◌^◌, length};
 ghost use Rattle.page_env.specs.Mark.{pixel_of};
 ghost use Rattle.page_comparison.specs.Marks.{
   edges_of,
@@ -66,9 +66,18 @@ fn edges_of_row<A: Allocator>(row: &OwnedRow<A>) -> Edges
 
 /// How far bytes of a row go.
 fn width_of(bytes: &[u8], resolution: Resolution) -> u128
-    ensures { result ≡ length bytes.now * 8 * pixel_of resolution }
+    ensures value { result ≡ length bytes.now * 8 * pixel_of resolution }
+    ensures small { result < 2 ^ 100 }
 {
-    bytes.len() as u128 * 8 * u128::from(pixel_of(resolution))
+    let pixels = bytes.len() as u128 * 8;
+    match resolution {
+        Resolution::Dots75 => pixels * 487_680_000,
+        Resolution::Dots100 => pixels * 365_760_000,
+        Resolution::Dots150 => pixels * 243_840_000,
+        Resolution::Dots200 => pixels * 182_880_000,
+        Resolution::Dots300 => pixels * 121_920_000,
+        Resolution::Dots600 => pixels * 60_960_000,
+    }
 }
 
 /// The box of the ends of a line, widened by half its width.

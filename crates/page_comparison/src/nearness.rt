@@ -1,6 +1,6 @@
 //! Whether two marks are near each other.
 
-ghost use Rattle.std.specs.Prelude.{◌≡◌, ◌↔◌, ◌&&◌, ◌==◌, IsTrue, unsigned_abs, ◌-ℤ◌, nat_le};
+ghost use Rattle.std.specs.Prelude.{◌≡◌, ◌↔◌, ◌&&◌, ◌==◌, IsTrue};
 ghost use Rattle.std.specs.Ordering.{int_eq};
 ghost use Rattle.device_profile.specs.Faces.{is_same_request};
 ghost use Rattle.page_env.specs.Mark.{pixels_per_inch};
@@ -26,11 +26,7 @@ impl Nearness {
 }
 
 /// Whether two marks are the same but for their edges, which lie within a distance.
-pub(crate) fn is_near<A: Allocator>(
-    one: &OwnedMark<A>,
-    other: &OwnedMark<A>,
-    within: u64,
-) -> bool
+pub(crate) fn is_near<A: Allocator>(one: &OwnedMark<A>, other: &OwnedMark<A>, within: u64) -> bool
     ensures { result ≡ is_near_shape within
         (shape_of_owned one.now) (shape_of_owned other.now) }
 {
@@ -120,14 +116,20 @@ fn is_same_fill(one: Fill, other: Fill) -> bool
 fn is_same_resolution(one: Resolution, other: Resolution) -> bool
     ensures { result ≡ (pixels_per_inch one == pixels_per_inch other) }
 {
-    match (one, other) {
-        (Resolution::Dots75, Resolution::Dots75) => true,
-        (Resolution::Dots100, Resolution::Dots100) => true,
-        (Resolution::Dots150, Resolution::Dots150) => true,
-        (Resolution::Dots200, Resolution::Dots200) => true,
-        (Resolution::Dots300, Resolution::Dots300) => true,
-        (Resolution::Dots600, Resolution::Dots600) => true,
-        _ => false,
+    pixels_per_inch(one) == pixels_per_inch(other)
+}
+
+/// How many pixels an inch has.
+fn pixels_per_inch(resolution: Resolution) -> u32
+    ensures { result ≡ pixels_per_inch resolution }
+{
+    match resolution {
+        Resolution::Dots75 => 75,
+        Resolution::Dots100 => 100,
+        Resolution::Dots150 => 150,
+        Resolution::Dots200 => 200,
+        Resolution::Dots300 => 300,
+        Resolution::Dots600 => 600,
     }
 }
 

@@ -1,6 +1,7 @@
 //! How two pages go on together, in their order.
 
-ghost use Rattle.std.specs.Prelude.{◌≡◌, ◌<◌, ◌≤◌, IfSome, IsTrue, false, find, length, true};
+ghost use Rattle.std.specs.Prelude.{◌≡◌, ◌<◌, ◌≤◌, ◌∷◌, IfSome, IsTrue, find, length};
+ghost use Rattle.std.specs.Prelude.{slice_index_or, true};
 ghost use Rattle.std.specs.Prelude.{if◌then◌else◌};
 ghost use Rattle.page_comparison.specs.InOrder.{
   go_alike,
@@ -40,9 +41,28 @@ pub(crate) fn next_turn<A: Allocator>(
     ensures old { result.old ≤ length old.now }
     ensures new { result.new ≤ length new.now }
 {
-    match (old, new) {
-        ([one, ..], [other, ..]) => turn_at(one, other, old, new, within),
-        _ => leaving(old.len(), new.len()),
+    match old {
+        [] => leaving(0, new.len()),
+        [one, ..] => turn_from(one, old, new, within),
+    }
+}
+
+/// The next turn where this is OLD's next mark.
+fn turn_from<A: Allocator>(
+    one: &PlacedMark<A>,
+    old: &[PlacedMark<A>],
+    new: &[PlacedMark<A>],
+    within: u64,
+) -> Turn
+    requires some { 0 < length old.now }
+    requires first { one.now ≡ slice_index_or old.now 0 one.now }
+    ensures turn { result ≡ turn_of within (made_marks old.now) (made_marks new.now) }
+    ensures old { result.old ≤ length old.now }
+    ensures new { result.new ≤ length new.now }
+{
+    match new {
+        [] => leaving(old.len(), 0),
+        [other, ..] => turn_at(one, other, old, new, within),
     }
 }
 
@@ -85,11 +105,7 @@ fn leaving(old: usize, new: usize) -> Turn
 
 /// The nearest way to go on alike, or else the next two marks are a pair.
 #[tactic(auto, unfolding(crate::specs::InOrder::nearest))]
-fn nearest<A: Allocator>(
-    old: &[PlacedMark<A>],
-    new: &[PlacedMark<A>],
-    within: u64,
-) -> Turn
+fn nearest<A: Allocator>(old: &[PlacedMark<A>], new: &[PlacedMark<A>], within: u64) -> Turn
     requires old { 0 < length old.now }
     requires new { 0 < length new.now }
     ensures turn { result ≡ nearest within (made_marks old.now) (made_marks new.now) }
@@ -143,6 +159,21 @@ fn resumed_by<A: Allocator>(
             return Some(turn);
         }
     }
+    last_way(old, new, within, together)
+}
+
+/// The way that leaves so many marks of OLD out and none of NEW.
+fn last_way<A: Allocator>(
+    old: &[PlacedMark<A>],
+    new: &[PlacedMark<A>],
+    within: u64,
+    together: usize,
+) -> Option<Turn>
+    ensures found { result ≡ (if is_resumed within (made_marks old.now) (made_marks new.now)
+        (leaving together 0) then Some (leaving together 0) else None) }
+    ensures fits { IfSome result (λ turn.
+        (turn.old ≤ length old.now) × (turn.new ≤ length new.now)) }
+{
     let turn = leaving(together, 0);
     if is_resumed(old, new, turn, within) {
         Some(turn)
@@ -174,12 +205,27 @@ fn is_resumed<A: Allocator>(
 fn go_alike<A: Allocator>(old: &[PlacedMark<A>], new: &[PlacedMark<A>], within: u64) -> bool
     ensures { result ≡ go_alike within (made_marks old.now) (made_marks new.now) }
 {
-    match (old, new) {
-        ([], []) => true,
-        ([one, old @ ..], [other, new @ ..]) => {
-            is_near(&one.mark, &other.mark, within) && next_near(old, new, within)
+    match old {
+        [] => new.is_empty(),
+        [one, rest @ ..] => alike_from(one, rest, new, within),
+    }
+}
+
+/// The same where OLD has this mark before the others.
+fn alike_from<A: Allocator>(
+    one: &PlacedMark<A>,
+    old: &[PlacedMark<A>],
+    new: &[PlacedMark<A>],
+    within: u64,
+) -> bool
+    ensures { result ≡ go_alike within (made_mark one.now ∷ made_marks old.now)
+        (made_marks new.now) }
+{
+    match new {
+        [] => false,
+        [other, rest @ ..] => {
+            is_near(&one.mark, &other.mark, within) && next_near(old, rest, within)
         }
-        _ => false,
     }
 }
 
@@ -187,8 +233,25 @@ fn go_alike<A: Allocator>(old: &[PlacedMark<A>], new: &[PlacedMark<A>], within: 
 fn next_near<A: Allocator>(old: &[PlacedMark<A>], new: &[PlacedMark<A>], within: u64) -> bool
     ensures { result ≡ next_near within (made_marks old.now) (made_marks new.now) }
 {
-    match (old, new) {
-        ([one, ..], [other, ..]) => is_near(&one.mark, &other.mark, within),
-        _ => true,
+    match old {
+        [] => true,
+        [one, ..] => near_from(one, old, new, within),
+    }
+}
+
+/// The same where this is OLD's next mark.
+fn near_from<A: Allocator>(
+    one: &PlacedMark<A>,
+    old: &[PlacedMark<A>],
+    new: &[PlacedMark<A>],
+    within: u64,
+) -> bool
+    requires some { 0 < length old.now }
+    requires first { one.now ≡ slice_index_or old.now 0 one.now }
+    ensures { result ≡ next_near within (made_marks old.now) (made_marks new.now) }
+{
+    match new {
+        [] => true,
+        [other, ..] => is_near(&one.mark, &other.mark, within),
     }
 }
