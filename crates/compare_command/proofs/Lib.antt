@@ -1,2 +1,3 @@
 mod Finding
 mod Names
+mod Pairs

@@ -1,0 +1,279 @@
+//! Compares the pages of two jobs.
+
+ghost use Rattle.std.specs.Prelude.{◌≡◌, ◌≤◌, ◌^◌, ◌&&◌, IfErr, IfOk, IsFalse, OnOk, length, map};
+ghost use Rattle.device_profile.specs.Printer.{first_panel};
+ghost use Rattle.page_machine.specs.Event.{Marked, Ended};
+ghost use Rattle.preflight.specs.Same.{is_same_end};
+ghost use Rattle.sinks.specs.Counts.{counted, counts_after};
+ghost use Rattle.page_comparison.specs.Comparison.{
+  IsPageComparison,
+  are_same_ends,
+  ends_compared,
+  marks_compared,
+  told_pages,
+};
+ghost use Rattle.page_comparison.specs.Kept.{kept_all, page_kept};
+ghost use Rattle.page_comparison.specs.Pages.{made_page, page_counted, shapes_of};
+ghost use Rattle.page_comparison.specs.Reading.{
+  IsErrorOfPages,
+  IsOwnError,
+  NewFailsRight,
+  PagesCompare,
+  is_over,
+  is_unread,
+};
+ghost use Rattle.streams.specs.Pieces.{ByReads};
+
+use crate::any_order::tell_in_any_order;
+use crate::differences::{Nearness, PageChange, PageComparison, PageOf, PagesError};
+use crate::in_order::tell_in_order;
+use crate::listing::Listing;
+use crate::page::Page;
+use crate::reading::{is_over, read_page};
+use crate::setting::Setting;
+use crate::standing::Standing;
+use comparison::{Follower, Unread, Which};
+use device_profile::Profile;
+use page_env::PageEnd;
+use page_machine::MarkSink;
+use pcl_lexer::one_reading;
+use sinks::Counts;
+use std::alloc::{AllocError, Allocator};
+use streams::{Error, Source};
+use verdict::Failure;
+
+/// All that differs of two jobs on the printer of this number, from the first panel that its
+/// profile lists: whether they print the same by a relation, or the first differences, so many at
+/// most. A failure of the job OLD comes before one of the job NEW, and both before a difference.
+///
+/// Both are read page by page: a page of each is held, and the differences.
+pub fn compare_pages<S: Source, T: Source, A: Allocator + Copy, P: Allocator>(
+    alloc: A,
+    old_job: &mut S,
+    new_job: &mut T,
+    profile: &Profile<P>,
+    number: u64,
+    nearness: Nearness,
+    most: u64,
+) -> Result<PageComparison<A>, PagesError>
+    requires old_job { IsFalse (S.state old_job.old).failed }
+    requires new_job { IsFalse (T.state new_job.old).failed }
+    ensures compared { IfOk result (λ comparison.
+        ByReads (S.state old_job.old) (S.state old_job.new) (λ one.
+        ByReads (T.state new_job.old) (T.state new_job.new) (λ other.
+        IsPageComparison nearness most number profile.now (first_panel profile.now) one other
+        (told_pages comparison)))) }
+    ensures old_read { (S.state old_job.new).failed ≡ is_unread Which.Old result }
+    ensures new_read { (T.state new_job.new).failed ≡ is_unread Which.New result }
+    ensures err { IfErr result (λ error. IsErrorOfPages error) }
+{
+    one_reading();
+    let panel = profile.first_panel();
+    let mut first = Follower::new(alloc, profile, &panel, number);
+    let mut second = Follower::new(alloc, profile, &panel, number);
+    compare_all(alloc, old_job, &mut first, new_job, &mut second, nearness, most)
+}
+
+/// Compares all pages of two jobs of which nothing was read.
+fn compare_all<S: Source, T: Source, A: Allocator + Copy, P: Allocator>(
+    alloc: A,
+    old_job: &mut S,
+    first: &mut Follower<'_, A, P>,
+    new_job: &mut T,
+    second: &mut Follower<'_, A, P>,
+    nearness: Nearness,
+    most: u64,
+) -> Result<PageComparison<A>, PagesError>
+    requires old_job { IsFalse (S.state old_job.old).failed }
+    requires new_job { IsFalse (T.state new_job.old).failed }
+    ensures compared { IfOk result (λ comparison. PagesCompare nearness most
+        (S.state old_job.old) (S.state old_job.new) (T.state new_job.old) (T.state new_job.new)
+        first.old second.old (told_pages comparison)) }
+    ensures old_read { (S.state old_job.new).failed ≡ is_unread Which.Old result }
+    ensures new_read { (T.state new_job.new).failed ≡ is_unread Which.New result }
+    ensures err { IfErr result (λ error. IsErrorOfPages error) }
+{
+    let mut listing = Listing::new(alloc, most);
+    let mut counts = Counts::none();
+    for page in 1..u64::MAX {
+        match first.failure() {
+            None => {}
+            Some(failure) => return Ok(PageComparison::OldFails(failure)),
+        }
+        match second.failure() {
+            None => {}
+            Some(failure) => return new_fails(old_job, first, failure),
+        }
+        if are_over(first, second) {
+            return Ok(listing.into_comparison(counts));
+        }
+        let one = read_page(alloc, page_of(Which::Old, page), old_job, first)?;
+        let other = read_page(alloc, page_of(Which::New, page), new_job, second)?;
+        compare_page(alloc, page, &one, &other, nearness, &mut listing)?;
+        counts = count_page(counts, &one);
+    }
+    Err(PagesError::Unread(Unread {
+        which: Which::Old,
+        error: Error::Turns,
+    }))
+}
+
+fn page_of(which: Which, page: u64) -> PageOf
+    ensures { result ≡ record { which = which; page = page } }
+{
+    PageOf { which, page }
+}
+
+/// Whether both jobs are over.
+fn are_over<A: Allocator + Copy, P: Allocator>(
+    first: &Follower<'_, A, P>,
+    second: &Follower<'_, A, P>,
+) -> bool
+    ensures { result ≡ (is_over first.now && is_over second.now) }
+{
+    is_over(first) && is_over(second)
+}
+
+/// What comes of two jobs of which NEW fails: OLD is carried out to its end, since its own failure
+/// comes first.
+fn new_fails<S: Source, A: Allocator + Copy, P: Allocator>(
+    old_job: &mut S,
+    first: &mut Follower<'_, A, P>,
+    failure: Failure,
+) -> Result<PageComparison<A>, PagesError>
+    requires { IsFalse (S.state old_job.old).failed }
+    ensures right { IfOk result (λ comparison. NewFailsRight
+        (S.state old_job.old) (S.state old_job.new) first.old failure (told_pages comparison)) }
+    ensures read { (S.state old_job.new).failed ≡ is_unread Which.Old result }
+    ensures err { IfErr result (λ error. IsOwnError Which.Old error × IsErrorOfPages error) }
+{
+    match first.run_out(old_job) {
+        Ok(()) => match first.failure() {
+            Some(own) => Ok(PageComparison::OldFails(own)),
+            None => Ok(PageComparison::NewFails(failure)),
+        },
+        Err(error) => Err(PagesError::Unread(Unread {
+            which: Which::Old,
+            error,
+        })),
+    }
+}
+
+/// Tells the differences of a page of this number, of which each job has one.
+fn compare_page<A: Allocator + Copy>(
+    alloc: A,
+    page: u64,
+    one: &Page<A>,
+    other: &Page<A>,
+    nearness: Nearness,
+    listing: &mut Listing<A>,
+) -> Result<(), AllocError>
+    requires old { length one.now.marks.items ≤ 2 ^ 20 }
+    requires new { length other.now.marks.items ≤ 2 ^ 20 }
+    ensures { OnOk result (listing.new
+        ≡ page_kept nearness page (made_page one.now) (made_page other.now) listing.old) }
+{
+    let setting = Setting {
+        page,
+        old_end: one.place,
+        new_end: other.place,
+        within: nearness.distance(),
+    };
+    tell_marks(alloc, nearness.any_order, &setting, one, other, listing)?;
+    tell_ends(page, one, other, listing)?;
+    listing.end_page();
+    Ok(())
+}
+
+/// Tells the differences of the marks of two pages.
+fn tell_marks<A: Allocator + Copy>(
+    alloc: A,
+    any_order: bool,
+    setting: &Setting,
+    one: &Page<A>,
+    other: &Page<A>,
+    listing: &mut Listing<A>,
+) -> Result<(), AllocError>
+    requires old { length one.now.marks.items ≤ 2 ^ 20 }
+    requires new { length other.now.marks.items ≤ 2 ^ 20 }
+    ensures { OnOk result (listing.new ≡ kept_all (marks_compared any_order setting.now
+        (made_page one.now).marks (made_page other.now).marks) listing.old) }
+{
+    let (old, new) = (one.marks.as_slice(), other.marks.as_slice());
+    if any_order {
+        tell_in_any_order(alloc, setting, old, new, listing)
+    } else {
+        tell_in_order(setting, old, new, listing)
+    }
+}
+
+/// Tells where two pages end otherwise.
+fn tell_ends<A: Allocator>(
+    page: u64,
+    one: &Page<A>,
+    other: &Page<A>,
+    listing: &mut Listing<A>,
+) -> Result<(), AllocError>
+    requires old { length one.now.marks.items ≤ 2 ^ 20 }
+    requires new { length other.now.marks.items ≤ 2 ^ 20 }
+    ensures { OnOk result (listing.new
+        ≡ kept_all (ends_compared page (made_page one.now) (made_page other.now)) listing.old) }
+{
+    if are_same_ends(one.end, other.end) {
+        return Ok(());
+    }
+    let at = Standing {
+        page,
+        old_mark: one.marks.len() as u64 + 1,
+        new_mark: other.marks.len() as u64 + 1,
+    };
+    listing.tell(at.difference(one.place, other.place, PageChange::PageEnds))
+}
+
+fn are_same_ends(one: Option<PageEnd>, other: Option<PageEnd>) -> bool
+    ensures { result ≡ are_same_ends one other }
+{
+    match (one, other) {
+        (None, None) => true,
+        (Some(one), Some(other)) => is_same_end(&one, &other),
+        _ => false,
+    }
+}
+
+/// Whether two pages end with the same five values.
+fn is_same_end(one: &PageEnd, other: &PageEnd) -> bool
+    ensures { result ≡ is_same_end one.now other.now }
+{
+    one.size == other.size
+        && one.orientation == other.orientation
+        && one.sides == other.sides
+        && one.tray == other.tray
+        && one.copies == other.copies
+}
+
+/// Counts a page of OLD and its marks.
+fn count_page<A: Allocator>(counts: Counts, page: &Page<A>) -> Counts
+    ensures { result ≡ page_counted (made_page page.now) counts }
+{
+    let counts = count_marks(counts, page);
+    match page.end {
+        None => counts,
+        Some(values) => count_end(counts, values),
+    }
+}
+
+fn count_marks<A: Allocator>(counts: Counts, page: &Page<A>) -> Counts
+    ensures { result ≡ counts_after (map Marked (shapes_of (made_page page.now).marks)) counts }
+{
+    let mut counts = counts;
+    counts.add_marks(page.marks.len() as u64);
+    counts
+}
+
+fn count_end(counts: Counts, values: PageEnd) -> Counts
+    ensures { result ≡ counted (Ended values) counts }
+{
+    let mut counts = counts;
+    let Ok(()) = counts.page(values);
+    counts
+}
