@@ -26,3 +26,4 @@ pub use differences::{
     PagesError,
 };
 pub use laws::{in_order_is_exact, same_as_itself, same_in_any_order};
+pub use page::{Page, PlacedMark};
