@@ -28,6 +28,14 @@ pub struct Page<A: Allocator> {
     pub place: Place,
 }
 
+/// A page of two jobs by its number, from 1.
+#[derive(Drop)]
+pub struct PagePair<A: Allocator> {
+    pub number: u64,
+    pub old: Page<A>,
+    pub new: Page<A>,
+}
+
 impl<A: Allocator + Copy> Page<A> {
     /// A page with no mark and no end.
     pub(crate) fn new(alloc: A) -> Page<A>
