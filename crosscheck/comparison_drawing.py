@@ -145,8 +145,8 @@ def line_of(it: Difference) -> str:
 def list_beside(page: DifferingPage) -> str:
     more = len(page.differences) - MOST_LINES
     return (f'<text transform="translate({pixels(page.sheet.width, 0)})" y="8" '
-            f'font-family="sans-serif" font-size="12"><tspan x="10" dy="17" font-weight="bold">Page '
-            f'{page.number}</tspan><tspan class="old" x="150">OLD</tspan>'
+            f'font-family="sans-serif" font-size="12"><tspan x="10" dy="17" font-weight="bold">'
+            f'Page {page.number}</tspan><tspan class="old" x="150">OLD</tspan>'
             f'<tspan class="new" x="310">NEW</tspan>\n'
             + "".join(map(line_of, page.differences[:MOST_LINES]))
             + (f'<tspan x="10" dy="17">and {more} more</tspan>\n' if more > 0 else "")
