@@ -19,8 +19,8 @@ abbrev pub compared_page : {A : Type 0} → DrawnPage A → ComparedPage
 compared_page page = record {
   number = page.number;
   paper = page.paper;
-  old = made_marks page.old.marks.items;
-  new = made_marks page.new.marks.items;
+  old = made_marks page.old.now.marks.items;
+  new = made_marks page.new.now.marks.items;
   differences = page.differences.items;
 }
 

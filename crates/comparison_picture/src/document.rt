@@ -32,7 +32,7 @@ const MOST_ROWS: usize = 1_000;
 pub fn push_document<A: Allocator + Copy, B: Allocator>(
     alloc: A,
     text: &mut Vec<u8, A>,
-    pages: &[DrawnPage<B>],
+    pages: &[DrawnPage<'_, B>],
     undrawn: u64,
     sentence: &[u8],
 ) -> Result<(), AllocError>
@@ -78,7 +78,7 @@ fn push_document_start<A: Allocator>(
 fn push_sections<A: Allocator + Copy, B: Allocator>(
     alloc: A,
     text: &mut Vec<u8, A>,
-    pages: &[DrawnPage<B>],
+    pages: &[DrawnPage<'_, B>],
 ) -> Result<(), AllocError>
     ensures { OnOk result (text.new.items ≡ text.old.items
         ++ sections true (compared_pages pages.now)) }
@@ -95,7 +95,7 @@ fn push_sections<A: Allocator + Copy, B: Allocator>(
 fn push_page_section<A: Allocator + Copy, B: Allocator>(
     alloc: A,
     text: &mut Vec<u8, A>,
-    page: &DrawnPage<B>,
+    page: &DrawnPage<'_, B>,
     has_patterns: bool,
 ) -> Result<(), AllocError>
     ensures { OnOk result (text.new.items ≡ text.old.items
@@ -119,7 +119,7 @@ fn push_section_start<A: Allocator>(text: &mut Vec<u8, A>, number: u64) -> Resul
 fn push_section_sheet<A: Allocator + Copy, B: Allocator>(
     alloc: A,
     text: &mut Vec<u8, A>,
-    page: &DrawnPage<B>,
+    page: &DrawnPage<'_, B>,
     has_patterns: bool,
 ) -> Result<(), AllocError>
     ensures { OnOk result (text.new.items ≡ text.old.items
@@ -133,7 +133,7 @@ fn push_section_sheet<A: Allocator + Copy, B: Allocator>(
 #[tactic(auto, unfolding(crate::specs::Document::section_list))]
 fn push_section_list<A: Allocator, B: Allocator>(
     text: &mut Vec<u8, A>,
-    page: &DrawnPage<B>,
+    page: &DrawnPage<'_, B>,
 ) -> Result<(), AllocError>
     ensures { OnOk result
         (text.new.items ≡ text.old.items ++ section_list (compared_page page.now)) }

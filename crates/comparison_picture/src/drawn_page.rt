@@ -10,15 +10,15 @@ use std::alloc::Allocator;
 
 /// A page on which two jobs differ.
 #[derive(Drop)]
-pub struct DrawnPage<A: Allocator> {
+pub struct DrawnPage<'p, A: Allocator> {
     /// Its number, from 1.
     pub number: u64,
     /// On which it is printed.
     pub paper: Geometry,
     /// The page of OLD; of one that it does not have, no marks.
-    pub old: Page<A>,
+    pub old: &'p Page<A>,
     /// The same of NEW.
-    pub new: Page<A>,
+    pub new: &'p Page<A>,
     /// All that differs on it.
     pub differences: Vec<PageDifference, A>,
 }

@@ -40,7 +40,7 @@ const BELOW: u16 = 4_800;
 pub fn push_picture<A: Allocator + Copy, B: Allocator>(
     alloc: A,
     text: &mut Vec<u8, A>,
-    page: &DrawnPage<B>,
+    page: &DrawnPage<'_, B>,
     sentence: &[u8],
 ) -> Result<(), AllocError>
     ensures { OnOk result (text.new.items ≡ text.old.items
@@ -114,7 +114,7 @@ fn push_style_part<A: Allocator>(text: &mut Vec<u8, A>) -> Result<(), AllocError
 fn push_page_sheet<A: Allocator + Copy, B: Allocator>(
     alloc: A,
     text: &mut Vec<u8, A>,
-    page: &DrawnPage<B>,
+    page: &DrawnPage<'_, B>,
     sentence: &[u8],
 ) -> Result<(), AllocError>
     ensures { OnOk result (text.new.items ≡ text.old.items
@@ -154,7 +154,7 @@ fn push_list_start<A: Allocator>(
 #[tactic(auto, unfolding(crate::specs::Picture::list_part))]
 fn push_list_part<A: Allocator, B: Allocator>(
     text: &mut Vec<u8, A>,
-    page: &DrawnPage<B>,
+    page: &DrawnPage<'_, B>,
 ) -> Result<(), AllocError>
     ensures { OnOk result
         (text.new.items ≡ text.old.items ++ list_part (compared_page page.now)) }

@@ -23,7 +23,7 @@ use std::alloc::{AllocError, Allocator};
 pub(crate) fn push_common_sheet<A: Allocator + Copy, B: Allocator>(
     alloc: A,
     text: &mut Vec<u8, A>,
-    page: &DrawnPage<B>,
+    page: &DrawnPage<'_, B>,
     has_sentence: bool,
     has_patterns: bool,
 ) -> Result<(), AllocError>
@@ -40,7 +40,7 @@ pub(crate) fn push_common_sheet<A: Allocator + Copy, B: Allocator>(
 pub(crate) fn push_apart<A: Allocator + Copy, B: Allocator>(
     alloc: A,
     text: &mut Vec<u8, A>,
-    page: &DrawnPage<B>,
+    page: &DrawnPage<'_, B>,
 ) -> Result<(), AllocError>
     ensures { OnOk result
         (text.new.items ≡ text.old.items ++ apart (compared_page page.now)) }
@@ -53,7 +53,7 @@ pub(crate) fn push_apart<A: Allocator + Copy, B: Allocator>(
 fn push_old_group<A: Allocator + Copy, B: Allocator>(
     alloc: A,
     text: &mut Vec<u8, A>,
-    page: &DrawnPage<B>,
+    page: &DrawnPage<'_, B>,
 ) -> Result<(), AllocError>
     ensures { OnOk result
         (text.new.items ≡ text.old.items ++ old_group (compared_page page.now)) }
@@ -67,7 +67,7 @@ fn push_old_group<A: Allocator + Copy, B: Allocator>(
 fn push_new_group<A: Allocator + Copy, B: Allocator>(
     alloc: A,
     text: &mut Vec<u8, A>,
-    page: &DrawnPage<B>,
+    page: &DrawnPage<'_, B>,
 ) -> Result<(), AllocError>
     ensures { OnOk result
         (text.new.items ≡ text.old.items ++ new_group (compared_page page.now)) }
@@ -83,7 +83,7 @@ fn push_old_layer<A: Allocator + Copy, B: Allocator>(
     alloc: A,
     text: &mut Vec<u8, A>,
     layer: Layer,
-    page: &DrawnPage<B>,
+    page: &DrawnPage<'_, B>,
 ) -> Result<(), AllocError>
     ensures { OnOk result
         (text.new.items ≡ text.old.items ++ old_layer layer (compared_page page.now)) }
@@ -104,7 +104,7 @@ fn push_new_layer<A: Allocator + Copy, B: Allocator>(
     alloc: A,
     text: &mut Vec<u8, A>,
     layer: Layer,
-    page: &DrawnPage<B>,
+    page: &DrawnPage<'_, B>,
 ) -> Result<(), AllocError>
     ensures { OnOk result
         (text.new.items ≡ text.old.items ++ new_layer layer (compared_page page.now)) }
