@@ -1,0 +1,203 @@
+//! The command `compare` for two jobs, with a picture of what differs.
+
+ghost use Rattle.std.specs.Prelude.{◌≡◌, ◌≢◌, [], IfErr, IfOk, IsFalse, OnOk, false, map};
+ghost use Rattle.std.specs.Prelude.{option_map};
+ghost use Rattle.compare_command.specs.Compare.{asked_for};
+ghost use Rattle.compare_command.specs.Drawing.{DrawsFound, DrawsText, DrawsWhole};
+ghost use Rattle.compare_command.specs.Drawing.{LeavesDrawn, LeavesDrawnFor, picture_found};
+ghost use Rattle.compare_command.specs.Pictures.{drawn_manner, drawn_most};
+ghost use Rattle.named_inputs.specs.Texts.{AsksInOrder};
+
+use crate::asked::CompareAsked;
+use crate::command::{Printers, read_printers, write_found};
+use crate::finding::find;
+use crate::found::{Found, Manner, near_by};
+use crate::picture::picture_of;
+use crate::stops::tell_stop;
+use device_profile::Profile;
+use named_inputs::{Jobs, ProfileTexts};
+use page_comparison::{Most, PagesError};
+use requests::{Extent, Nearness, Status};
+use std::alloc::Global;
+use streams::{Create, CreateError, Error, Outlet, write_text};
+
+/// Of a document of all pages that differ at most so many are drawn.
+const MOST_DRAWN: u64 = 100;
+
+/// How the command ends, and whether OUT has all of the picture.
+#[derive(Clone, Copy)]
+pub struct Drawn {
+    pub status: Status,
+    pub is_drawn: bool,
+}
+
+impl Drawn {
+    /// Nothing is drawn.
+    fn nothing(status: Status) -> Drawn
+        ensures { result ≡ record { status = status; is_drawn = false } }
+    {
+        Drawn {
+            status,
+            is_drawn: false,
+        }
+    }
+}
+
+/// The command `compare` with a picture: as `compare`, and in OUT the first page that differs as an
+/// SVG, or where all differences are told, the pages that differ as an HTML document. Jobs that
+/// print the same, and jobs that fail, leave OUT as it is.
+///
+/// Pages are compared one by one, and those that are drawn are held until both jobs are read.
+pub fn compare_drawn<'n, J: Jobs<'n>, T: ProfileTexts, D: Create, O: Outlet, E: Outlet>(
+    alloc: Global,
+    jobs: &mut J,
+    texts: &mut T,
+    asked: &CompareAsked<'_, 'n>,
+    out: &mut D,
+    stdout: &mut O,
+    stderr: &mut E,
+) -> Drawn
+    requires texts { IsFalse (T.failed texts.old) }
+    requires out { IsFalse (D.state out.old).failed }
+    requires stdout { IsFalse (O.state stdout.old).failed }
+    requires stderr { IsFalse (E.state stderr.old).failed }
+    requires some { asked.now.printers.now ≢ [] }
+    ensures left { LeavesDrawn
+        (map (λ word. T.text_of texts.old word.now) asked.now.printers.now)
+        (T.given texts.old) (T.given texts.new) (asked_for asked.now) (J.start jobs.old) result
+        (J.ended jobs.old) (J.ended jobs.new) (D.state out.old) (D.state out.new)
+        (O.state stdout.old) (O.state stdout.new) (E.state stderr.old) (E.state stderr.new) }
+    ensures named { AsksInOrder (map (λ word. word.now) asked.now.printers.now)
+        (T.named texts.old) (T.named texts.new) }
+{
+    match read_printers(alloc, texts, asked.printers, asked.form, stderr) {
+        Ok(printers) => draw_on_printers(alloc, jobs, asked, &printers, out, stdout, stderr),
+        Err(status) => Drawn::nothing(status),
+    }
+}
+
+/// Compares the jobs on these printers, draws what differs, and writes what is found.
+fn draw_on_printers<'n, J: Jobs<'n>, D: Create, O: Outlet, E: Outlet>(
+    alloc: Global,
+    jobs: &mut J,
+    asked: &CompareAsked<'_, 'n>,
+    printers: &Printers,
+    out: &mut D,
+    stdout: &mut O,
+    stderr: &mut E,
+) -> Drawn
+    requires out { IsFalse (D.state out.old).failed }
+    requires stdout { IsFalse (O.state stdout.old).failed }
+    requires stderr { IsFalse (E.state stderr.old).failed }
+    ensures { LeavesDrawnFor (asked_for asked.now) printers.now.fleet.items
+        (map (λ name. name.items) printers.now.names.items)
+        (J.start jobs.old) result (J.ended jobs.old) (J.ended jobs.new)
+        (D.state out.old) (D.state out.new) (O.state stdout.old) (O.state stdout.new)
+        (E.state stderr.old) (E.state stderr.new) }
+{
+    let manner = drawn_manner(asked.nearness, asked.extent);
+    match find(alloc, jobs, asked, manner, printers.fleet.as_slice()) {
+        Ok(found) => draw_found(alloc, asked, printers, &found, out, stdout),
+        Err(stop) => Drawn::nothing(tell_stop(alloc, asked, &stop, stderr)),
+    }
+}
+
+/// How jobs are compared where this is asked of them, and what differs is drawn: page by page.
+fn drawn_manner(nearness: Nearness, extent: Extent) -> Manner
+    ensures { result ≡ drawn_manner nearness extent }
+{
+    Manner::ByPages {
+        nearness: near_by(nearness),
+        most: drawn_most(extent),
+    }
+}
+
+/// The first page that differs is held, or of all of them the first ones.
+fn drawn_most(extent: Extent) -> Most
+    ensures { result ≡ drawn_most extent }
+{
+    match extent {
+        Extent::First => Most {
+            differences: 1,
+            pages: 1,
+        },
+        Extent::All { most } => Most {
+            differences: most,
+            pages: MOST_DRAWN,
+        },
+    }
+}
+
+/// Draws what was found on these printers, and writes it.
+fn draw_found<D: Create, O: Outlet>(
+    alloc: Global,
+    asked: &CompareAsked<'_, '_>,
+    printers: &Printers,
+    found: &Found,
+    out: &mut D,
+    stdout: &mut O,
+) -> Drawn
+    requires out { IsFalse (D.state out.old).failed }
+    requires stdout { IsFalse (O.state stdout.old).failed }
+    ensures { DrawsFound (asked_for asked.now) printers.now.fleet.items
+        (map (λ name. name.items) printers.now.names.items) found.now result
+        (D.state out.old) (D.state out.new) (O.state stdout.old) (O.state stdout.new) }
+{
+    let names = printers.names.as_slice();
+    let Ok(picture) = picture_found(alloc, asked, printers.fleet.as_slice(), names, found) else {
+        return Drawn::nothing(Status::Stopped(Error::Memory));
+    };
+    let Some(text) = picture else {
+        return Drawn::nothing(write_found(alloc, asked, names, found, stdout));
+    };
+    if let Err(status) = draw(text.as_slice(), out) {
+        return Drawn::nothing(status);
+    }
+    Drawn {
+        status: write_found(alloc, asked, names, found, stdout),
+        is_drawn: true,
+    }
+}
+
+/// The picture of what was found on these printers of these names.
+fn picture_found(
+    alloc: Global,
+    asked: &CompareAsked<'_, '_>,
+    fleet: &[Profile],
+    names: &[Vec<u8>],
+    found: &Found,
+) -> Result<Option<Vec<u8>>, PagesError>
+    ensures { IfOk result (λ picture. option_map (λ text. text.items) picture
+        ≡ picture_found (asked_for asked.now) fleet.now (map (λ name. name.items) names.now)
+        found.now) }
+{
+    let telling = asked.telling(names);
+    picture_of(alloc, &telling, near_by(asked.nearness), fleet, found)
+}
+
+/// Creates OUT, and writes a picture to it.
+fn draw<D: Create>(text: &[u8], out: &mut D) -> Result<(), Status>
+    requires { IsFalse (D.state out.old).failed }
+    ensures whole { OnOk result (DrawsWhole text.now (D.state out.old) (D.state out.new)) }
+    ensures cut { IfErr result (λ status.
+        DrawsText text.now status (D.state out.old) (D.state out.new)) }
+{
+    match out.create() {
+        Ok(()) => draw_text(text, out),
+        Err(CreateError::NoMemory) => Err(Status::Stopped(Error::Memory)),
+        Err(CreateError::Refused) => Err(Status::Stopped(Error::Write)),
+    }
+}
+
+/// Writes a picture to OUT, which is created.
+fn draw_text<D: Create>(text: &[u8], out: &mut D) -> Result<(), Status>
+    requires { IsFalse (D.state out.old).failed }
+    ensures whole { OnOk result (DrawsWhole text.now (D.state out.old) (D.state out.new)) }
+    ensures cut { IfErr result (λ status.
+        DrawsText text.now status (D.state out.old) (D.state out.new)) }
+{
+    match write_text(out, text) {
+        Ok(()) => Ok(()),
+        Err(_) => Err(Status::Stopped(Error::Write)),
+    }
+}
