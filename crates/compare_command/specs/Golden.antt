@@ -33,8 +33,11 @@ pub record PairNames : Type 0 where
   pub old_name : List ℕ
   pub new_name : List ℕ
 
+abbrev pub pair_names : (old new : List ℕ) → PairNames
+pair_names old new = record { old_name = old; new_name = new }
+
 abbrev pub names_of : JobPair → PairNames
-names_of pair = record { old_name = pair.old_name.now; new_name = pair.new_name.now }
+names_of pair = pair_names pair.old_name.now pair.new_name.now
 
 -- the names of the pairs, the words of the printers, the form, how near is same, and how much of what differs is told
 pub record Golden : Type 0 where

@@ -3,4 +3,5 @@ mod Asking
 mod ComparisonLeft
 mod Contained
 mod Fleets
+mod GoldenLeft
 mod NameFacts

@@ -1,5 +1,7 @@
 pub mod Checks
 pub mod Comparisons
+pub mod GoldenJobs
 pub mod Inputs
 pub mod Lists
 pub mod Names
+pub mod Reads

@@ -1,7 +1,8 @@
-//! A check of many jobs and a comparison of two by request, on files.
+//! A check of many jobs and comparisons by request, on files.
 #![tactic(auto)]
 
 mod compared_jobs;
+mod golden_jobs;
 mod inputs;
 mod lists;
 mod many;
