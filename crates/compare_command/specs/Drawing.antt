@@ -1,8 +1,9 @@
 -- What the command `compare` leaves of two jobs, with a picture of what differs.
-use Rattle.std.specs.Prelude.{◌≡◌, ◌⊎◌, ℕ, true, false, List, ◌∷◌, IsFalse, IsTrue, Option, None, Some}
+use Rattle.std.specs.Prelude.{◌≡◌, ◌⊎◌, ◌&&◌, ℕ, Bool, true, false, List, ◌∷◌, IsFalse, IsTrue, Option, None, Some}
 use Rattle.device_profile.specs.Printer.{Printer}
 use Rattle.requests.specs.declared.status.Status.{Status}
 use Rattle.requests.specs.declared.status.Status.TheVariants.{Stopped}
+use Rattle.requests.specs.Status.{is_complete}
 use Rattle.sinks.specs.Counts.{no_counts}
 use Rattle.streams.specs.Ended.{JobRead}
 use Rattle.streams.specs.Outlet.{OutletState, Adds, AddsFront}
@@ -42,8 +43,8 @@ TellsFound asked names found status out out' =
     (status_by (same_counts found.outcome)) status out out'
 
 -- where no page differs OUT is as it was; else the picture is drawn first, and where it could not be nothing is told
-abbrev pub DrawsPicture : Option (List ℕ) → Asked → List (List ℕ) → Found → Drawn → (file file' out out' : OutletState) →
-    Type 0
+abbrev pub DrawsPicture : Option (List ℕ) → Asked → List (List ℕ) → Found → Drawn →
+    (file file' out out' : OutletState) → Type 0
 DrawsPicture None asked names found drawn file file' out out' =
     (drawn.is_drawn ≡ false) × (file' ≡ file) × TellsFound asked names found drawn.status out out'
 DrawsPicture (Some text) asked names found drawn file file' out out' =
@@ -56,6 +57,10 @@ abbrev pub DrawsFound : Asked → List Printer → List (List ℕ) → Found →
 DrawsFound asked fleet names found drawn file file' out out' =
     DrawsPicture (picture_found asked fleet names found) asked names found drawn file file' out out'
     ⊎ ((drawn ≡ record { status = Stopped Memory; is_drawn = false }) × (file' ≡ file) × (out' ≡ out))
+
+-- OUT has all of the picture, and the command came to its end
+abbrev pub is_whole : Drawn → Bool
+is_whole drawn = drawn.is_drawn && is_complete drawn.status
 
 -- ---- what is left
 

@@ -4,7 +4,8 @@ ghost use Rattle.std.specs.Prelude.{◌≡◌, ◌≢◌, [], IfErr, IfOk, IsFal
 ghost use Rattle.std.specs.Prelude.{option_map};
 ghost use Rattle.compare_command.specs.Compare.{asked_for};
 ghost use Rattle.compare_command.specs.Drawing.{DrawsFound, DrawsText, DrawsWhole};
-ghost use Rattle.compare_command.specs.Drawing.{LeavesDrawn, LeavesDrawnFor, picture_found};
+ghost use Rattle.compare_command.specs.Drawing.{LeavesDrawn, LeavesDrawnFor, is_whole};
+ghost use Rattle.compare_command.specs.Drawing.{picture_found};
 ghost use Rattle.compare_command.specs.Pictures.{drawn_manner, drawn_most};
 ghost use Rattle.named_inputs.specs.Texts.{AsksInOrder};
 
@@ -40,6 +41,13 @@ impl Drawn {
             status,
             is_drawn: false,
         }
+    }
+
+    /// OUT has all of the picture, and the command came to its end.
+    pub fn is_whole(self) -> bool
+        ensures { result ≡ is_whole self }
+    {
+        self.is_drawn && self.status.is_complete()
     }
 }
 

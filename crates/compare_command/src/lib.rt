@@ -7,13 +7,13 @@
 
 mod asked;
 mod command;
+mod drawing;
 mod finding;
 mod found;
 mod golden;
 mod lines;
 mod objects;
 mod picture;
-mod drawing;
 mod sentences;
 mod stops;
 mod telling;
