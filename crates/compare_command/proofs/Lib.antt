@@ -1,3 +1,4 @@
+mod Drawings
 mod Finding
 mod Names
 mod Pairs

@@ -1,5 +1,5 @@
 -- What the command `compare` leaves of two jobs, with a picture of what differs.
-use Rattle.std.specs.Prelude.{◌≡◌, ◌⊎◌, ◌&&◌, ℕ, Bool, true, false, List, ◌∷◌, IsFalse, IsTrue, Option, None, Some}
+use Rattle.std.specs.Prelude.{◌≡◌, ◌⊎◌, ◌&&◌, ℕ, Bool, true, false, List, ◌∷◌, IsFalse, IsTrue, Option, None, Some, ⊤}
 use Rattle.device_profile.specs.Printer.{Printer}
 use Rattle.requests.specs.declared.status.Status.{Status}
 use Rattle.requests.specs.declared.status.Status.TheVariants.{Stopped}
@@ -23,11 +23,18 @@ use Rattle.compare_command.specs.declared.found.Found.{Found}
 abbrev pub DrawsWhole : List ℕ → OutletState → OutletState → Type 0
 DrawsWhole text out out' = IsFalse out'.failed × Adds out out' text
 
--- it has not: it could not be created, or a write to it failed, or there was no memory
+-- it has not: a write to it failed, or it could not be created, or there was no memory for that
 abbrev pub DrawsText : List ℕ → Status → OutletState → OutletState → Type 0
-DrawsText text (Stopped Write) out out' = IsTrue out'.failed × AddsFront out out' text
+DrawsText text (Stopped Write) out out' =
+    IsTrue out'.failed × (AddsFront out out' text ⊎ (out' ≡ record out { failed = true }))
 DrawsText text (Stopped Memory) out out' = out' ≡ out
 DrawsText text _ out out' = ⊥
+
+-- why it is not created
+abbrev pub IsEndOfCreating : Status → Type 0
+IsEndOfCreating (Stopped Write) = ⊤
+IsEndOfCreating (Stopped Memory) = ⊤
+IsEndOfCreating _ = ⊥
 
 -- ---- what is drawn
 

@@ -1,13 +1,13 @@
 //! The command `compare` for two jobs, with a picture of what differs.
 
-ghost use Rattle.std.specs.Prelude.{◌≡◌, ◌≢◌, [], IfErr, IfOk, IsFalse, OnOk, false, map};
-ghost use Rattle.std.specs.Prelude.{option_map};
+ghost use Rattle.std.specs.Prelude.{◌≡◌, ◌≢◌, [], IfErr, IfOk, IsFalse, Some, map, option_map};
 ghost use Rattle.compare_command.specs.Compare.{asked_for};
-ghost use Rattle.compare_command.specs.Drawing.{DrawsFound, DrawsText, DrawsWhole};
+ghost use Rattle.compare_command.specs.Drawing.{DrawsFound, DrawsPicture, IsEndOfCreating};
 ghost use Rattle.compare_command.specs.Drawing.{LeavesDrawn, LeavesDrawnFor, is_whole};
 ghost use Rattle.compare_command.specs.Drawing.{picture_found};
 ghost use Rattle.compare_command.specs.Pictures.{drawn_manner, drawn_most};
 ghost use Rattle.named_inputs.specs.Texts.{AsksInOrder};
+ghost use Rattle.requests.specs.Status.{is_err_at_write};
 
 use crate::asked::CompareAsked;
 use crate::command::{Printers, read_printers, write_found};
@@ -33,16 +33,6 @@ pub struct Drawn {
 }
 
 impl Drawn {
-    /// Nothing is drawn.
-    fn nothing(status: Status) -> Drawn
-        ensures { result ≡ record { status = status; is_drawn = false } }
-    {
-        Drawn {
-            status,
-            is_drawn: false,
-        }
-    }
-
     /// OUT has all of the picture, and the command came to its end.
     pub fn is_whole(self) -> bool
         ensures { result ≡ is_whole self }
@@ -80,7 +70,10 @@ pub fn compare_drawn<'n, J: Jobs<'n>, T: ProfileTexts, D: Create, O: Outlet, E: 
 {
     match read_printers(alloc, texts, asked.printers, asked.form, stderr) {
         Ok(printers) => draw_on_printers(alloc, jobs, asked, &printers, out, stdout, stderr),
-        Err(status) => Drawn::nothing(status),
+        Err(status) => Drawn {
+            status,
+            is_drawn: false,
+        },
     }
 }
 
@@ -104,9 +97,17 @@ fn draw_on_printers<'n, J: Jobs<'n>, D: Create, O: Outlet, E: Outlet>(
         (E.state stderr.old) (E.state stderr.new) }
 {
     let manner = drawn_manner(asked.nearness, asked.extent);
-    match find(alloc, jobs, asked, manner, printers.fleet.as_slice()) {
-        Ok(found) => draw_found(alloc, asked, printers, &found, out, stdout),
-        Err(stop) => Drawn::nothing(tell_stop(alloc, asked, &stop, stderr)),
+    let fleet = printers.fleet.as_slice();
+    let names = printers.names.as_slice();
+    match find(alloc, jobs, asked, manner, fleet) {
+        Ok(found) => draw_found(alloc, asked, fleet, names, &found, out, stdout),
+        Err(stop) => {
+            let status = tell_stop(alloc, asked, &stop, stderr);
+            Drawn {
+                status,
+                is_drawn: false,
+            }
+        }
     }
 }
 
@@ -140,30 +141,122 @@ fn drawn_most(extent: Extent) -> Most
 fn draw_found<D: Create, O: Outlet>(
     alloc: Global,
     asked: &CompareAsked<'_, '_>,
-    printers: &Printers,
+    fleet: &[Profile],
+    names: &[Vec<u8>],
     found: &Found,
     out: &mut D,
     stdout: &mut O,
 ) -> Drawn
     requires out { IsFalse (D.state out.old).failed }
     requires stdout { IsFalse (O.state stdout.old).failed }
-    ensures { DrawsFound (asked_for asked.now) printers.now.fleet.items
-        (map (λ name. name.items) printers.now.names.items) found.now result
+    ensures { DrawsFound (asked_for asked.now) fleet.now (map (λ name. name.items) names.now)
+        found.now result
         (D.state out.old) (D.state out.new) (O.state stdout.old) (O.state stdout.new) }
 {
-    let names = printers.names.as_slice();
-    let Ok(picture) = picture_found(alloc, asked, printers.fleet.as_slice(), names, found) else {
-        return Drawn::nothing(Status::Stopped(Error::Memory));
-    };
-    let Some(text) = picture else {
-        return Drawn::nothing(write_found(alloc, asked, names, found, stdout));
-    };
-    if let Err(status) = draw(text.as_slice(), out) {
-        return Drawn::nothing(status);
+    match picture_found(alloc, asked, fleet, names, found) {
+        Ok(picture) => draw_picture(alloc, asked, names, found, picture, out, stdout),
+        Err(_) => Drawn {
+            status: Status::Stopped(Error::Memory),
+            is_drawn: false,
+        },
     }
-    Drawn {
-        status: write_found(alloc, asked, names, found, stdout),
-        is_drawn: true,
+}
+
+/// Draws a picture of what was found, if there is one, and writes what was found.
+fn draw_picture<D: Create, O: Outlet>(
+    alloc: Global,
+    asked: &CompareAsked<'_, '_>,
+    names: &[Vec<u8>],
+    found: &Found,
+    picture: Option<Vec<u8>>,
+    out: &mut D,
+    stdout: &mut O,
+) -> Drawn
+    requires out { IsFalse (D.state out.old).failed }
+    requires stdout { IsFalse (O.state stdout.old).failed }
+    ensures { DrawsPicture (option_map (λ text. text.items) picture) (asked_for asked.now)
+        (map (λ name. name.items) names.now) found.now result
+        (D.state out.old) (D.state out.new) (O.state stdout.old) (O.state stdout.new) }
+{
+    match picture {
+        Some(text) => draw_text(alloc, asked, names, found, text.as_slice(), out, stdout),
+        None => {
+            let status = write_found(alloc, asked, names, found, stdout);
+            Drawn {
+                status,
+                is_drawn: false,
+            }
+        }
+    }
+}
+
+/// Creates OUT, and draws this picture.
+fn draw_text<D: Create, O: Outlet>(
+    alloc: Global,
+    asked: &CompareAsked<'_, '_>,
+    names: &[Vec<u8>],
+    found: &Found,
+    text: &[u8],
+    out: &mut D,
+    stdout: &mut O,
+) -> Drawn
+    requires out { IsFalse (D.state out.old).failed }
+    requires stdout { IsFalse (O.state stdout.old).failed }
+    ensures { DrawsPicture (Some text.now) (asked_for asked.now)
+        (map (λ name. name.items) names.now) found.now result
+        (D.state out.old) (D.state out.new) (O.state stdout.old) (O.state stdout.new) }
+{
+    match create(out) {
+        Ok(()) => draw_created(alloc, asked, names, found, text, out, stdout),
+        Err(status) => Drawn {
+            status,
+            is_drawn: false,
+        },
+    }
+}
+
+/// Draws this picture in OUT, which is created.
+fn draw_created<D: Outlet, O: Outlet>(
+    alloc: Global,
+    asked: &CompareAsked<'_, '_>,
+    names: &[Vec<u8>],
+    found: &Found,
+    text: &[u8],
+    out: &mut D,
+    stdout: &mut O,
+) -> Drawn
+    requires out { IsFalse (D.state out.old).failed }
+    requires stdout { IsFalse (O.state stdout.old).failed }
+    ensures { DrawsPicture (Some text.now) (asked_for asked.now)
+        (map (λ name. name.items) names.now) found.now result
+        (D.state out.old) (D.state out.new) (O.state stdout.old) (O.state stdout.new) }
+{
+    match write_text(out, text) {
+        Ok(()) => {
+            let status = write_found(alloc, asked, names, found, stdout);
+            Drawn {
+                status,
+                is_drawn: true,
+            }
+        }
+        Err(_) => Drawn {
+            status: Status::Stopped(Error::Write),
+            is_drawn: false,
+        },
+    }
+}
+
+/// Creates OUT.
+fn create<D: Create>(out: &mut D) -> Result<(), Status>
+    requires { IsFalse (D.state out.old).failed }
+    ensures err { IfErr result IsEndOfCreating }
+    ensures state { D.state out.new ≡ record
+        (D.state out.old) { failed = is_err_at_write result } }
+{
+    match out.create() {
+        Ok(()) => Ok(()),
+        Err(CreateError::NoMemory) => Err(Status::Stopped(Error::Memory)),
+        Err(CreateError::Refused) => Err(Status::Stopped(Error::Write)),
     }
 }
 
@@ -181,31 +274,4 @@ fn picture_found(
 {
     let telling = asked.telling(names);
     picture_of(alloc, &telling, near_by(asked.nearness), fleet, found)
-}
-
-/// Creates OUT, and writes a picture to it.
-fn draw<D: Create>(text: &[u8], out: &mut D) -> Result<(), Status>
-    requires { IsFalse (D.state out.old).failed }
-    ensures whole { OnOk result (DrawsWhole text.now (D.state out.old) (D.state out.new)) }
-    ensures cut { IfErr result (λ status.
-        DrawsText text.now status (D.state out.old) (D.state out.new)) }
-{
-    match out.create() {
-        Ok(()) => draw_text(text, out),
-        Err(CreateError::NoMemory) => Err(Status::Stopped(Error::Memory)),
-        Err(CreateError::Refused) => Err(Status::Stopped(Error::Write)),
-    }
-}
-
-/// Writes a picture to OUT, which is created.
-fn draw_text<D: Create>(text: &[u8], out: &mut D) -> Result<(), Status>
-    requires { IsFalse (D.state out.old).failed }
-    ensures whole { OnOk result (DrawsWhole text.now (D.state out.old) (D.state out.new)) }
-    ensures cut { IfErr result (λ status.
-        DrawsText text.now status (D.state out.old) (D.state out.new)) }
-{
-    match write_text(out, text) {
-        Ok(()) => Ok(()),
-        Err(_) => Err(Status::Stopped(Error::Write)),
-    }
 }
