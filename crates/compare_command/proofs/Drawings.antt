@@ -1,5 +1,5 @@
 -- OUT as it was created, and as it was before.
-use Rattle.std.proofs.Common.{◌≡◌, ◌∙◌, ℕ, Bool, List, IsFalse, ap, false, inr, sym}
+use Rattle.std.proofs.Common.{◌≡◌, ◌∙◌, ℕ, List, IsFalse, ap, false, inr, sym}
 use Rattle.requests.specs.Status.{is_stop_of_write}
 use Rattle.requests.specs.declared.status.Status.{Status}
 use Rattle.requests.specs.declared.status.Status.TheVariants.{Pass, Fail, Help, Usage, Overwrites, NotAllowed, Told}
