@@ -89,9 +89,9 @@ pub(crate) const COMPARE: &CommandRow = &CommandRow {
         },
         WordRow {
             id: "PROFILE",
-            need: Need::Unless(&["PRINTER", "FLEET"]),
+            need: Need::Unless(&["PRINTER", "FLEET", "GOLDEN"]),
             count: Count::Several("PROFILE"),
-            help: "The printers: paths of profiles, or samples @A to @D",
+            help: "The printers: paths of profiles, or samples @A to @D; with --golden further jobs",
         },
     ],
     options: &[

@@ -13,6 +13,7 @@ ghost use Rattle.requests.specs.Comparisons.{NamesCompared};
 
 use crate::drawn_jobs::compare_drawn_on_files;
 use crate::golden_jobs::{compare_golden_jobs, golden_jobs};
+use crate::inputs::READ_FOR_EACH;
 use crate::many::{all_printers, read_fleets};
 use compare_command::{CompareAsked, GoldenAsked, compare};
 use job_reports::{is_pipe, refuse_pipe};
@@ -21,9 +22,6 @@ use requests::{CompareWords, ComparedJobs, Status};
 use std::io::{Input, Print};
 use std::rt::Files;
 use streams::{Error, FilesUsed, Outlet};
-
-/// Why a comparison reads a job again.
-pub(crate) const READ_FOR_EACH: &[u8] = b"compare reads both jobs once for each printer\n";
 
 /// Compares jobs. The fleets are read first, then the profiles, then the jobs.
 pub fn compare_asked<R: Files + Input + Print + AllocGlobal, O: Outlet, E: Outlet>(

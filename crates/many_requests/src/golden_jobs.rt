@@ -9,7 +9,7 @@ ghost use Rattle.many_requests.specs.GoldenJobs.{RefusesGolden, golden_names, go
 ghost use Rattle.many_requests.specs.GoldenJobs.{golden_with, is_input_of, last_part, names_input};
 ghost use Rattle.many_requests.specs.GoldenJobs.{pair_by};
 
-use crate::compared_jobs::READ_FOR_EACH;
+use crate::inputs::READ_FOR_EACH;
 use compare_command::{GoldenAsked, JobPair, compare_golden};
 use job_reports::{is_pipe, refuse_pipe, refuse_words};
 use named_inputs::{FileJobs, FileTexts, is_input};
