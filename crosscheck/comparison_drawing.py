@@ -9,7 +9,9 @@ from dataclasses import dataclass
 from typing import List, Tuple
 
 from drawing import Sheet, hundredths, mark, sentence_text, units
-from state import INCH
+from page_differences import Difference, Made
+from printer_profile import Profile
+from state import INCH, PER_7200
 
 TICKS_PER_PIXEL_HUNDREDTH = INCH // 9600
 MOST_LINES = 55
@@ -88,22 +90,12 @@ LIST_START = """\
 
 
 @dataclass
-class Difference:
-    """What differs, the marks by their numbers on the page, and the bytes of their items."""
-    change: str
-    old_mark: int
-    old_place: int
-    new_mark: int
-    new_place: int
-
-
-@dataclass
 class DifferingPage:
-    """A page, its sheet, and the marks of both jobs: the bytes of their items, and their lines."""
+    """A page, its sheet, and the marks of both jobs."""
     number: int
     sheet: Sheet
-    old: List[Tuple[int, str]]
-    new: List[Tuple[int, str]]
+    old: List[Made]
+    new: List[Made]
     differences: List[Difference]
 
     def told(self) -> Tuple[set, set]:
@@ -113,7 +105,7 @@ class DifferingPage:
         return old, new
 
 
-def drawn(marks: List[Tuple[int, str]], differing: set, wanted: bool) -> str:
+def drawn(marks: List[Made], differing: set, wanted: bool) -> str:
     return "".join(mark(line, place, False) for number, (place, line) in enumerate(marks, start=1)
                    if (number in differing) == wanted)
 
@@ -130,6 +122,19 @@ def sheet_of(page: DifferingPage, sentence: bytes, has_patterns: bool) -> str:
 
 
 # ---- the picture of a page
+
+def paper(profile: Profile, end: str) -> Sheet:
+    """The sheet of a page that ends with this line."""
+    values = dict(word.split("=") for word in end.split() if "=" in word)
+    page = profile.geometries[int(values["size"]), int(values["orientation"])]
+    left, top, width, height = (n * PER_7200 for n in (page.lx, page.ly, page.lw, page.lh))
+    logical = (left, top, left + width, top + height)
+    printable = tuple(n * PER_7200 for n in (page.left, page.top, page.right, page.bottom))
+    return Sheet(width=page.page_width * PER_7200, height=page.page_height * PER_7200,
+                 logical=logical, printable=printable, text=logical, frame=logical, cursor=(0, 0),
+                 mark=None)
+
+
 
 def pixels(ticks: int, more: int) -> str:
     """A side in pixels, of which an inch has 96."""
