@@ -51,12 +51,16 @@ pub record LeavesDrawnJobs (asked : Asked) (into : List ℕ) (status : Status) (
   pub left : LeavesDrawn (map text_named asked.printers) [] texts asked (λ name. no_source) drawn [] ended no_outlet
       file out out' err err'
 
--- or OUT is a file that is read, or one of the jobs is refused that can be read only once: nothing is written and
--- nothing read
+-- so it is, unless OUT is a file that is read: then nothing is written and nothing read
+abbrev pub LeavesUnlessRead : Asked → (into : List ℕ) → Status → List FileUse → List FileUse → OutletState →
+    OutletState → OutletState → OutletState → Type 0
+LeavesUnlessRead asked into status used used' out out' err err' =
+    LeavesDrawnJobs asked into status used used' out out' err err'
+    ⊎ ((read : Input) × (status ≡ Overwrites read) × (err' ≡ err) × (out' ≡ out) × (used' ≡ used))
+
+-- and unless one of the jobs is refused that can be read only once
 abbrev pub LeavesDrawnOnFiles : Asked → (into : List ℕ) → Status → List FileUse → List FileUse → OutletState →
     OutletState → OutletState → OutletState → Type 0
 LeavesDrawnOnFiles asked into status used used' out out' err err' =
-    (IsFalse (reads_input_twice asked) × LeavesDrawnJobs asked into status used used' out out' err err')
-    ⊎ ((((read : Input) × (status ≡ Overwrites read) × (err' ≡ err))
-    ⊎ RefusesPipe (asked.old_name ∷ asked.new_name ∷ []) read_for_each status err err')
-    × (out' ≡ out) × (used' ≡ used))
+    (IsFalse (reads_input_twice asked) × LeavesUnlessRead asked into status used used' out out' err err')
+    ⊎ (RefusesPipe (asked.old_name ∷ asked.new_name ∷ []) read_for_each status err err' × (out' ≡ out) × (used' ≡ used))

@@ -3,6 +3,7 @@
 ghost use Rattle.std.specs.Prelude.{◌≢◌, [], IsFalse};
 ghost use Rattle.compare_command.specs.Compare.{asked_for};
 ghost use Rattle.many_requests.specs.DrawnJobs.{EndsDrawn, LeavesDrawnJobs, LeavesDrawnOnFiles};
+ghost use Rattle.many_requests.specs.DrawnJobs.{LeavesUnlessRead};
 
 use crate::compared_jobs::{READ_FOR_EACH, gone_once_read};
 use compare_command::{CompareAsked, Drawn, compare_drawn};
@@ -39,10 +40,28 @@ pub(crate) fn compare_drawn_on_files<
     if let Some(name) = gone_once_read(rt, asked) {
         return refuse_pipe(rt.alloc(), name.as_bytes(), READ_FOR_EACH, stderr);
     }
-    if let Some(read) = overwritten(rt, asked, path) {
-        return Status::Overwrites(read);
+    draw_unless_read(rt, asked, path, used, stdout, stderr)
+}
+
+/// Compares two jobs and draws what differs, unless the file at the path is one that is read.
+fn draw_unless_read<'r, R: Files + Input + Print + AllocGlobal, O: Outlet, E: Outlet>(
+    rt: &'r R,
+    asked: &CompareAsked<'_, 'r>,
+    path: &'r str,
+    used: &mut FilesUsed,
+    stdout: &mut O,
+    stderr: &mut E,
+) -> Status
+    requires stdout { IsFalse (O.state stdout.old).failed }
+    requires stderr { IsFalse (E.state stderr.old).failed }
+    requires some { asked.now.printers.now ≢ [] }
+    ensures { LeavesUnlessRead (asked_for asked.now) path.now result used.old used.new
+        (O.state stdout.old) (O.state stdout.new) (E.state stderr.old) (E.state stderr.new) }
+{
+    match overwritten(rt, asked, path) {
+        Some(read) => Status::Overwrites(read),
+        None => draw_jobs(rt, asked, path, used, stdout, stderr),
     }
-    draw_jobs(rt, asked, path, used, stdout, stderr)
 }
 
 /// Compares two jobs and draws what differs.
