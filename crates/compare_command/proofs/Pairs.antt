@@ -1,5 +1,5 @@
 -- What is told of one pair of jobs after another.
-use Rattle.std.proofs.Common.{◌≡◌, ◌+◌, ◌<◌, ◌≤◌, ℕ, List, [], ◌∷◌, length, map, drop, get_or, Result, Ok, Err, IfOk, IfErr, OnOk}
+use Rattle.std.proofs.Common.{◌≡◌, ◌+◌, ◌<◌, ◌≤◌, ℕ, List, ◌∷◌, length, map, drop, get_or, Result, Ok, Err, IfOk, IfErr, OnOk}
 use Rattle.std.proofs.Common.{IsFalse, IsTrue, Option, ap, inl, inr, refl, subst, sym, ◌∙◌}
 use Rattle.std.proofs.lemmas.List.{drop_all, drop_more}
 use Rattle.device_profile.specs.Printer.{Printer}

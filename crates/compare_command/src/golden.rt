@@ -2,7 +2,6 @@
 
 ghost use Rattle.std.specs.Prelude.{◌≡◌, ◌≢◌, [], IfErr, IfOk, IsFalse, IsTrue, List};
 ghost use Rattle.std.specs.Prelude.{OnOk, Option, ℕ, map};
-ghost use Rattle.comparison.specs.Running.{IsErrorOfJob};
 ghost use Rattle.compare_command.specs.Compare.{asked_for, telling_of};
 ghost use Rattle.compare_command.specs.Golden.{IsCut, IsTold, LeavesGolden, LeavesPairs, TellsPair};
 ghost use Rattle.compare_command.specs.Golden.{ending_of, golden_for, names_of, status_at};

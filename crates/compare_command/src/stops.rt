@@ -1,6 +1,6 @@
 //! Why two jobs are not compared.
 
-ghost use Rattle.std.specs.Prelude.{◌≡◌, ◌⊎◌, IsFalse, option_map};
+ghost use Rattle.std.specs.Prelude.{◌≡◌, ◌⊎◌, IsFalse};
 ghost use Rattle.comparison.specs.Running.{IsErrorOfJob};
 ghost use Rattle.compare_command.specs.Compare.{StopsAt, asked_for};
 ghost use Rattle.compare_command.specs.Golden.{name_by};
@@ -79,7 +79,8 @@ pub(crate) fn stop_of_pages<S: Source>(
 
 /// The words on a page with so many marks, where there is memory for them.
 fn page_words(alloc: Global, page: u64) -> Option<String> {
-    format!(in alloc; "page {page} has more than {MOST_MARKS} marks").ok()
+    let most = MOST_MARKS;
+    format!(in alloc; "page {page} has more than {most} marks").ok()
 }
 
 /// The name of this one of two jobs.

@@ -2,7 +2,7 @@ use Rattle.std.proofs.Common.{subst, sym}
 use Rattle.requests.specs.declared.status.Status.{Status}
 use Rattle.compare_command.specs.Compare.{WritesFound}
 use Rattle.compare_command.specs.Outcomes.{status_by}
-use Rattle.compare_command.proofs.Finding.{written_whole}
+use Rattle.compare_command.proofs.Compared.{written_whole}
 use Rattle.compare_command.proofs.command.write_whole.Goals as goal
 
 pub returns-in-Ok : goal.returns-in-Ok

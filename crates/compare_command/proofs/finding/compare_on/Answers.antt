@@ -1,5 +1,5 @@
 use Rattle.std.proofs.Common.{◌∙◌}
-use Rattle.compare_command.proofs.Finding.{jobs_compared}
+use Rattle.compare_command.proofs.Compared.{jobs_compared}
 use Rattle.compare_command.proofs.finding.compare_on.Goals as goal
 
 pub returns-clause-compared : goal.returns-clause-compared

@@ -4,7 +4,7 @@ use Rattle.sinks.specs.declared.counts.Counts.{Counts}
 use Rattle.comparison.specs.declared.difference.Comparison.TheVariants.{Same}
 use Rattle.compare_command.specs.declared.found.Outcome.TheVariants.{OfEvents}
 use Rattle.compare_command.specs.Compare.{AreCompared, found_at}
-use Rattle.compare_command.proofs.Finding.{found_more, same_all, same_more}
+use Rattle.compare_command.proofs.Compared.{found_more, same_all, same_more}
 use Rattle.compare_command.proofs.finding.find.Goals as goal
 
 pub loop-index-init : goal.loop-index-init

@@ -1,4 +1,4 @@
-use Rattle.std.proofs.Common.{map, refl, rules, ◌∙◌}
+use Rattle.std.proofs.Common.{map, refl, ◌∙◌}
 use Rattle.requests.specs.declared.status.Status.TheVariants.{Stopped}
 use Rattle.many_jobs.specs.JobChecks.{work}
 use Rattle.compare_command.specs.Golden.{golden_for}
@@ -21,7 +21,7 @@ loop-pair-preserved g c =
           so_far.onward status new
           (told_more (golden_for c.args.asked.now) c.args.printers.now.fleet.items
           (map (λ name. name.items) c.args.printers.now.names.items) (g.J.Jobs.start c.args.jobs.now)
-          (g.J.Jobs.start c.loop-pair.jobs) so_far.start c.args.pairs.now c.loop-pair.pair-index _ (search rules) _
+          (g.J.Jobs.start c.loop-pair.jobs) so_far.start c.args.pairs.now c.loop-pair.pair-index _ c.loop-pair-test.true _
           c.of_pair-pair_asked.ensures c.loop-pair.ending
           (work (g.O.Outlet.state c.loop-pair.stdout) (g.J.Jobs.ended c.loop-pair.jobs)) c.in-Ok.told
           (work (g.O.Outlet.state c.tell_pair.new.stdout) (g.J.Jobs.ended c.tell_pair.new.jobs)) c.in-Ok.ensures.told
@@ -34,7 +34,7 @@ returns-in-Err g c =
     so_far.onward (Stopped c.in-Err.error) (work (g.O.Outlet.state c.tell_pair.new.stdout) (g.J.Jobs.ended c.tell_pair.new.jobs))
     (cut_here (golden_for c.args.asked.now) c.args.printers.now.fleet.items
     (map (λ name. name.items) c.args.printers.now.names.items) (g.J.Jobs.start c.args.jobs.now)
-    (g.J.Jobs.start c.loop-pair.jobs) so_far.start c.args.pairs.now c.loop-pair.pair-index _ (search rules) _
+    (g.J.Jobs.start c.loop-pair.jobs) so_far.start c.args.pairs.now c.loop-pair.pair-index _ c.loop-pair-test.true _
     c.of_pair-pair_asked.ensures c.loop-pair.ending
     (work (g.O.Outlet.state c.loop-pair.stdout) (g.J.Jobs.ended c.loop-pair.jobs)) c.in-Err.error
     (work (g.O.Outlet.state c.tell_pair.new.stdout) (g.J.Jobs.ended c.tell_pair.new.jobs)) c.in-Err.ensures.cut)
@@ -45,4 +45,5 @@ returns g c =
     c.loop-pair.invariant.onward c.status.result now
     (told_all (golden_for c.args.asked.now) c.args.printers.now.fleet.items
     (map (λ name. name.items) c.args.printers.now.names.items) (g.J.Jobs.start c.args.jobs.now) c.args.pairs.now
-    c.loop-pair.pair-index c.loop-pair.ending c.status.result now (search rules) c.status.ensures c.loop-pair.invariant.working)
+    c.loop-pair.pair-index c.loop-pair.ending c.status.result now c.loop-pair-test.false c.status.ensures
+    c.loop-pair.invariant.working)

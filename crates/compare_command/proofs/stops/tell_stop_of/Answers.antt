@@ -1,5 +1,5 @@
 use Rattle.std.proofs.Common.{inl, inr, refl}
-use Rattle.compare_command.proofs.Finding.{error_stops}
+use Rattle.compare_command.proofs.Compared.{error_stops}
 use Rattle.compare_command.proofs.stops.tell_stop_of.Goals as goal
 
 pub returns-in-Read : goal.returns-in-Read
