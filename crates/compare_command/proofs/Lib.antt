@@ -1,5 +1,4 @@
 mod Compared
 mod Drawings
-mod Finding
 mod Names
 mod Pairs

@@ -44,12 +44,7 @@ impl<'p, A: Allocator + Copy, P: Allocator> Model for Follower<'p, A, P> {
 
 impl<'p, A: Allocator + Copy, P: Allocator> Follower<'p, A, P> {
     /// A job of which nothing is read, on the printer of this number, from this panel.
-    pub fn new(
-        alloc: A,
-        profile: &'p Profile<P>,
-        panel: &Panel,
-        number: u64,
-    ) -> Follower<'p, A, P>
+    pub fn new(alloc: A, profile: &'p Profile<P>, panel: &Panel, number: u64) -> Follower<'p, A, P>
         requires { IsAllowed profile.now panel.now }
         ensures run { (first : SourceState) →
             HasFollowed profile.now panel.now first first [] result }

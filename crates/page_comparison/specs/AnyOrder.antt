@@ -1,5 +1,5 @@
 -- The marks of two pages in any order.
-use Rattle.std.specs.Prelude.{ℕ, ◌+◌, nat_lt, Bool, true, false, ◌&&◌, List, [], ◌∷◌, ◌++◌, length, drop, map}
+use Rattle.std.specs.Prelude.{ℕ, ◌+◌, nat_lt, Bool, true, false, not, ◌&&◌, List, [], ◌∷◌, ◌++◌, length, drop, map}
 use Rattle.std.specs.Prelude.{Option, None, Some, option_map, slice_set, if◌then◌else◌}
 use Rattle.std.specs.List.{list_any}
 use Rattle.page_comparison.specs.declared.bag.Matched.{Matched}
@@ -12,13 +12,15 @@ use Rattle.page_comparison.specs.Marks.{edges_of, is_near_mark, overlap}
 use Rattle.page_comparison.specs.Pages.{MadeMark}
 use Rattle.page_comparison.specs.Told.{difference_at, next_place}
 
+abbrev pub is_match : ℕ → (a b : MadeMark) → (taken : Bool) → Bool
+is_match within a b taken = not taken && is_near_mark within a b
+
 -- the place in NEW of the first mark that is near this one and not matched yet
 abbrev pub first_free : ℕ → MadeMark → List MadeMark → List Bool → Option ℕ
 first_free within a [] taken = None
 first_free within a (b ∷ new) [] = None
-first_free within a (b ∷ new) (true ∷ taken) = option_map (λ i. i + 1) (first_free within a new taken)
-first_free within a (b ∷ new) (false ∷ taken) =
-    if is_near_mark within a b then Some 0 else option_map (λ i. i + 1) (first_free within a new taken)
+first_free within a (b ∷ new) (t ∷ taken) =
+    if is_match within a b t then Some 0 else option_map (λ i. i + 1) (first_free within a new taken)
 
 -- which marks of NEW are matched, and with what boxes of OLD, in OLD's order
 pub record Matching : Type 0 where

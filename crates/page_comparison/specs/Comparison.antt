@@ -1,7 +1,7 @@
 -- What comes of two jobs, OLD and NEW, on a printer from a panel, page by page: they print the same, or all that
 -- differs, or why one fails.
-use Rattle.std.specs.Prelude.{◌≡◌, ℕ, ◌+◌, ◌-◌, ◌^◌, ◌==◌, nat_lt, Bool, true, false, List, [], ◌∷◌, ◌++◌, length, map}
-use Rattle.std.specs.Prelude.{take, count_by, flat_map, Option, None, Some, if◌then◌else◌}
+use Rattle.std.specs.Prelude.{◌≡◌, ℕ, ◌+◌, ◌-◌, ◌^◌, ◌==◌, nat_lt, Bool, true, false, List, [], ◌∷◌, ◌++◌, length, take}
+use Rattle.std.specs.Prelude.{count_by, flat_map, Option, None, Some, if◌then◌else◌}
 use Rattle.pcl_lexer.specs.Reading.{Reading, IsReading}
 use Rattle.device_profile.specs.declared.panel.Panel.{Panel}
 use Rattle.device_profile.specs.Printer.{Printer}
@@ -23,8 +23,7 @@ use Rattle.page_comparison.specs.declared.setting.Setting.{Setting}
 use Rattle.page_comparison.specs.AnyOrder.{all_in_any_order, stand_at}
 use Rattle.page_comparison.specs.InOrder.{all_in_order}
 use Rattle.page_comparison.specs.Marks.{distance_of}
-use Rattle.page_comparison.specs.Pages.{MadeMark, MadePage, MadePair, made_pair, pair_at, paired, pages_counted}
-use Rattle.page_comparison.specs.Pages.{pages_of}
+use Rattle.page_comparison.specs.Pages.{MadeMark, MadePage, MadePair, made_pair, pair_at, paired, pages_counted, pages_of}
 use Rattle.page_comparison.specs.Told.{difference_at}
 
 -- ---- one page

@@ -38,7 +38,7 @@ splits old zero = leaving old 0 ∷ []
 splits old (suc new) = leaving old (suc new) ∷ splits (old + 1) new
 
 -- so many together, with the fewest of OLD first, and then always one more together
-abbrev pub leavings : (together times : ℕ) → List Turn
+unfoldable pub leavings : (together times : ℕ) → List Turn
 leavings together zero = []
 leavings together (suc times) = splits 0 together ++ leavings (together + 1) times
 

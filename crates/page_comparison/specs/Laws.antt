@@ -1,5 +1,5 @@
 -- What the relations of two jobs have to do with each other.
-use Rattle.std.specs.Prelude.{◌≡◌, ℕ, List, Bool, true, false, ◌↔◌}
+use Rattle.std.specs.Prelude.{◌≡◌, ℕ, Bool, true, false, ◌↔◌}
 use Rattle.pcl_lexer.specs.Reading.{Reading}
 use Rattle.device_profile.specs.declared.panel.Panel.{Panel}
 use Rattle.device_profile.specs.Printer.{Printer}

@@ -10,9 +10,8 @@ use Rattle.sinks.specs.declared.counts.Counts.{Counts}
 use Rattle.streams.specs.Pieces.{ByReads}
 use Rattle.streams.specs.Source.{SourceState}
 use Rattle.verdict.specs.declared.failure.Failure.{Failure}
-use Rattle.comparison.specs.declared.compare.Unread.{Unread}
 use Rattle.comparison.specs.declared.compare.Which.{Which}
-use Rattle.comparison.specs.Comparing.{Following, HasFollowed, is_unread_by, next_of}
+use Rattle.comparison.specs.Comparing.{Following, HasFollowed, is_unread_by, next_of, still_made}
 use Rattle.comparison.specs.Comparison.{Made}
 use Rattle.comparison.specs.Running.{IsErrorOfJob, failure_of, is_open}
 use Rattle.page_comparison.specs.declared.differences.Most.{Most}
@@ -56,6 +55,14 @@ page_with made page =
 -- the job is over, and the page ends where it does
 abbrev pub page_at_end : ℕ → MadePage → MadePage
 page_at_end place page = record page { place = place }
+
+-- the event that has come is taken; or none has, and the job is over
+abbrev pub TakesEvent : (old new : Following) → (page page' : MadePage) → Option Bool → Type 0
+TakesEvent old new page page' (Some goes_on) =
+    (made : Made) × (still_made old ≡ made ∷ still_made new) × (new.run ≡ old.run) × (is_mark made.event ≡ goes_on)
+    × (page' ≡ page_with made page)
+TakesEvent old new page page' None =
+    (new ≡ old) × (is_over old ≡ true) × (page' ≡ page_at_end old.run.place page)
 
 -- behind what was made so far this came next, and is on the page, which goes on where it is a mark; or the job is over
 abbrev pub NextTaken : Option Bool → Printer → Panel → (first now : SourceState) → List Made → Following →

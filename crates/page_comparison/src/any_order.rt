@@ -1,6 +1,7 @@
 //! Compares the marks of two pages in any order.
 
 ghost use Rattle.std.specs.Prelude.{◌≡◌, ◌+◌, ◌<◌, ◌≤◌, ◌^◌, ◌∷◌, List, [], OnOk, drop, length};
+ghost use Rattle.std.specs.Prelude.{if◌then◌else◌};
 ghost use Rattle.page_comparison.specs.AnyOrder.{
   all_in_any_order,
   first_free,
@@ -11,7 +12,7 @@ ghost use Rattle.page_comparison.specs.AnyOrder.{
 };
 ghost use Rattle.page_comparison.specs.declared.bag.Matched.{Matched};
 ghost use Rattle.page_comparison.specs.declared.differences.PageChange.TheVariants.{Covers};
-ghost use Rattle.page_comparison.specs.Kept.{kept_all, kept_with};
+ghost use Rattle.page_comparison.specs.Kept.{kept_all};
 ghost use Rattle.page_comparison.specs.Pages.{made_mark, made_marks};
 ghost use Rattle.page_comparison.specs.Told.{difference_at, next_place};
 
@@ -35,8 +36,8 @@ pub(crate) fn tell_in_any_order<A: Allocator + Copy>(
     new: &[PlacedMark<A>],
     listing: &mut Listing<A>,
 ) -> Result<(), AllocError>
-    requires old { length old.now ≤ 2 ^ 20 }
-    requires new { length new.now ≤ 2 ^ 20 }
+    requires old { length old.now ≤ 2 ^ 21 }
+    requires new { length new.now ≤ 2 ^ 21 }
     ensures { OnOk result (listing.new ≡ kept_all
         (all_in_any_order setting.now (made_marks old.now) (made_marks new.now)) listing.old) }
 {
@@ -58,15 +59,15 @@ fn tell_mark<A: Allocator + Copy>(
     listing: &mut Listing<A>,
 ) -> Result<(), AllocError>
     requires taken { length bag.old.taken ≡ length new.now }
-    requires few { length new.now ≤ 2 ^ 20 }
+    requires few { length new.now ≤ 2 ^ 21 }
     ensures told { OnOk result (
         let found = first_free setting.now.within (made_mark mark.now) (made_marks new.now)
-            bag.old.taken in
+        bag.old.taken in
         listing.new ≡ kept_all (mark_told setting.now (made_marks new.now) number
         (made_mark mark.now) bag.old.earlier found) listing.old) }
     ensures matched { OnOk result (
         let found = first_free setting.now.within (made_mark mark.now) (made_marks new.now)
-            bag.old.taken in
+        bag.old.taken in
         bag.new ≡ matched_with (made_mark mark.now) found bag.old) }
 {
     match bag.find(mark, new, setting.within) {
@@ -83,7 +84,7 @@ fn tell_unmatched<A: Allocator + Copy>(
     mark: &PlacedMark<A>,
     listing: &mut Listing<A>,
 ) -> Result<(), AllocError>
-    requires { length new.now ≤ 2 ^ 20 }
+    requires { length new.now ≤ 2 ^ 21 }
     ensures { OnOk result ((earlier : List Matched) → listing.new ≡ kept_all
         (mark_told setting.now (made_marks new.now) number (made_mark mark.now) earlier None)
         listing.old) }
@@ -104,7 +105,7 @@ fn tell_matched<A: Allocator + Copy>(
     listing: &mut Listing<A>,
 ) -> Result<(), AllocError>
     requires taken { length bag.old.taken ≡ length new.now }
-    requires few { length new.now ≤ 2 ^ 20 }
+    requires few { length new.now ≤ 2 ^ 21 }
     requires inside { place < length new.now }
     ensures told { OnOk result (listing.new ≡ kept_all (mark_told setting.now (made_marks new.now)
         number (made_mark mark.now) bag.old.earlier (Some place)) listing.old) }
@@ -112,28 +113,31 @@ fn tell_matched<A: Allocator + Copy>(
         ≡ matched_with (made_mark mark.now) (Some place) bag.old) }
 {
     let edges = edges_of(&mark.mark);
-    if bag.is_crossed(place, &edges) {
-        tell_covers(setting, number, mark, place, new, listing)?;
-        return bag.take(place, edges);
-    }
+    let crossed = bag.is_crossed(place, &edges);
+    tell_if_crossed(setting, new, number, mark, place, crossed, listing)?;
     bag.take(place, edges)
 }
 
-/// Tells that a mark of OLD covers another one otherwise than its match at a place.
-fn tell_covers<A: Allocator>(
+/// Tells, where it does, that a mark of OLD covers another one otherwise than its match at a place.
+fn tell_if_crossed<A: Allocator>(
     setting: &Setting,
+    new: &[PlacedMark<A>],
     number: usize,
     mark: &PlacedMark<A>,
     place: usize,
-    new: &[PlacedMark<A>],
+    crossed: bool,
     listing: &mut Listing<A>,
 ) -> Result<(), AllocError>
-    requires few { length new.now ≤ 2 ^ 20 }
+    requires few { length new.now ≤ 2 ^ 21 }
     requires inside { place < length new.now }
-    ensures { OnOk result (listing.new ≡ kept_with (difference_at
+    ensures { let told = difference_at
         (stand_at setting.now.page number (place + 1)) (made_mark mark.now).place
-        (next_place setting.now.new_end (drop place (made_marks new.now))) Covers) listing.old) }
+        (next_place setting.now.new_end (drop place (made_marks new.now))) Covers in
+        OnOk result (listing.new ≡ kept_all (if crossed then told ∷ [] else []) listing.old) }
 {
+    if !crossed {
+        return Ok(());
+    }
     let at = standing(setting, number, place + 1);
     let new_place = next_place(&new[place..], setting.new_end);
     listing.tell(at.difference(mark.place, new_place, PageChange::Covers))
@@ -159,7 +163,7 @@ fn tell_free<A: Allocator + Copy>(
     listing: &mut Listing<A>,
 ) -> Result<(), AllocError>
     requires taken { length bag.now.taken ≡ length new.now }
-    requires few { length new.now ≤ 2 ^ 20 }
+    requires few { length new.now ≤ 2 ^ 21 }
     ensures { OnOk result (listing.new ≡ kept_all
         (free_told setting.now old_mark 1 (made_marks new.now) bag.now.taken) listing.old) }
 {

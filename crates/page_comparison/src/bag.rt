@@ -1,9 +1,9 @@
 //! The marks of NEW's page, of which some are matched with marks of OLD.
 
 ghost use Rattle.std.specs.Prelude.{◌≡◌, ◌++◌, ◌+◌, ◌<◌, ◌^◌, ◌∷◌, ◌==◌, [], IfOk, IfSome};
-ghost use Rattle.std.specs.Prelude.{OnOk, false, if◌then◌else◌, length, map, slice_get, slice_set, true};
+ghost use Rattle.std.specs.Prelude.{Bool, OnOk, false, if◌then◌else◌, length, map, slice_get, slice_set, true};
 ghost use Rattle.std.specs.List.{list_any};
-ghost use Rattle.page_comparison.specs.AnyOrder.{first_free, is_crossed, none_matched};
+ghost use Rattle.page_comparison.specs.AnyOrder.{first_free, is_crossed, is_match, none_matched};
 ghost use Rattle.page_comparison.specs.Pages.{made_mark, made_marks};
 
 use crate::edges::{Edges, overlap};
@@ -73,11 +73,26 @@ impl<A: Allocator + Copy> Bag<A> {
         ensures inside { IfSome result (λ place. place < length marks.now) }
     {
         for place in self.front..marks.len() {
-            if !self.taken[place] && is_near(&one.mark, &marks[place].mark, within) {
+            if self.is_match(place, one, &marks[place], within) {
                 return Some(place);
             }
         }
         None
+    }
+
+    /// Whether the mark at a place, which is this one, is near a mark of OLD and not matched yet.
+    fn is_match(
+        &self,
+        place: usize,
+        one: &PlacedMark<A>,
+        other: &PlacedMark<A>,
+        within: u64,
+    ) -> bool
+        requires { place < length self.now.taken }
+        ensures { (taken : Bool) → slice_get self.now.taken place ≡ Some taken →
+            result ≡ is_match within (made_mark one.now) (made_mark other.now) taken }
+    {
+        !self.is_taken(place) && is_near(&one.mark, &other.mark, within)
     }
 
     /// The mark at this place is matched with one of OLD that has this box.
@@ -103,7 +118,8 @@ impl<A: Allocator + Copy> Bag<A> {
         requires { place < length self.now.taken }
         ensures { result ≡ list_any (is_crossed place edges.now) self.now.earlier }
     {
-        if self.beyond <= place + 1 {
+        let last = self.beyond <= place + 1;
+        if last {
             return false;
         }
         is_crossed_by(place, edges, self.earlier.as_slice())
@@ -134,7 +150,7 @@ fn none_taken<A: Allocator + Copy>(
     ensures { IfOk result (λ taken. taken.items ≡ map (λ mark. false) (made_marks marks.now)) }
 {
     let mut taken = Vec::new(alloc);
-    for _mark in marks {
+    for _ in 0..marks.len() {
         taken.push(false)?;
     }
     Ok(taken)
@@ -144,9 +160,16 @@ fn is_crossed_by(place: usize, edges: &Edges, earlier: &[Matched]) -> bool
     ensures { result ≡ list_any (is_crossed place edges.now) earlier.now }
 {
     for matched in earlier {
-        if place < matched.new && overlap(&matched.edges, edges) {
+        if crosses(place, edges, matched) {
             return true;
         }
     }
     false
+}
+
+/// Whether NEW makes an earlier mark behind the one at a place, and they overlap.
+fn crosses(place: usize, edges: &Edges, earlier: &Matched) -> bool
+    ensures { result ≡ is_crossed place edges.now earlier.now }
+{
+    place < earlier.new && overlap(&earlier.edges, edges)
 }

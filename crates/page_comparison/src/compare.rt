@@ -14,7 +14,7 @@ ghost use Rattle.page_comparison.specs.Comparison.{
   pair_differences,
   told_pages,
 };
-ghost use Rattle.page_comparison.specs.Kept.{kept_all};
+ghost use Rattle.page_comparison.specs.Kept.{kept_all, page_kept};
 ghost use Rattle.page_comparison.specs.Pages.{made_page, made_pair, page_counted, shapes_of};
 ghost use Rattle.page_comparison.specs.Reading.{
   IsErrorOfPages,
@@ -54,8 +54,8 @@ const ALL: Most = Most {
 
 /// All that differs of two jobs on the printer of this number, from the first panel that its
 /// profile lists: whether they print the same by a relation, or the first differences and the first
-/// pages that differ, so many at most. A failure of the job OLD comes before one of the job NEW, and
-/// both before a difference.
+/// pages that differ, so many at most. A failure of the job OLD comes before one of the job NEW,
+/// and both before a difference.
 ///
 /// Both are read page by page: a page of each is held, the differences, and pages that are kept.
 pub fn compare_pages<S: Source, T: Source, A: Allocator + Copy, P: Allocator>(
@@ -82,7 +82,15 @@ pub fn compare_pages<S: Source, T: Source, A: Allocator + Copy, P: Allocator>(
     let panel = profile.first_panel();
     let mut first = Follower::new(alloc, profile, &panel, number);
     let mut second = Follower::new(alloc, profile, &panel, number);
-    compare_all(alloc, old_job, &mut first, new_job, &mut second, nearness, most)
+    compare_all(
+        alloc,
+        old_job,
+        &mut first,
+        new_job,
+        &mut second,
+        nearness,
+        most,
+    )
 }
 
 /// Compares all pages of two jobs of which nothing was read.
@@ -113,20 +121,20 @@ fn compare_all<S: Source, T: Source, A: Allocator + Copy, P: Allocator>(
         }
         match second.failure() {
             None => {}
-            Some(failure) => return new_fails(old_job, first, failure),
+            Some(own) => return new_fails(old_job, first, own),
         }
         if are_over(first, second) {
             return Ok(listing.into_comparison(counts));
         }
         let one = read_page(alloc, page_of(Which::Old, page), old_job, first)?;
         let other = read_page(alloc, page_of(Which::New, page), new_job, second)?;
-        compare_page(alloc, page, &one, &other, nearness, &mut listing)?;
         counts = count_page(counts, &one);
-        listing.end_page(PagePair {
+        let pair = PagePair {
             number: page,
             old: one,
             new: other,
-        })?;
+        };
+        compare_page(alloc, nearness, pair, &mut listing)?;
     }
     Err(PagesError::Unread(Unread {
         which: Which::Old,
@@ -143,15 +151,14 @@ pub fn differences_of<A: Allocator + Copy>(
     ensures { IfOk result (λ differences.
         differences.items ≡ pair_differences nearness (made_pair pair.now)) }
 {
-    let (one, other) = (&pair.old, &pair.new);
-    if one.marks.len() > MOST_MARKS {
+    if pair.old.marks.len() > MOST_MARKS {
         return Err(PagesError::TooManyMarks(page_of(Which::Old, pair.number)));
     }
-    if other.marks.len() > MOST_MARKS {
+    if pair.new.marks.len() > MOST_MARKS {
         return Err(PagesError::TooManyMarks(page_of(Which::New, pair.number)));
     }
     let mut listing = Listing::new(alloc, ALL);
-    compare_page(alloc, pair.number, one, other, nearness, &mut listing)?;
+    tell_page(alloc, nearness, pair, &mut listing)?;
     Ok(listing.into_listed())
 }
 
@@ -196,28 +203,45 @@ fn new_fails<S: Source, A: Allocator + Copy, P: Allocator>(
     }
 }
 
-/// Tells the differences of a page of this number, of which each job has one.
+/// Tells the differences of a page of both jobs, and keeps it, where it differs and there is room.
 fn compare_page<A: Allocator + Copy>(
     alloc: A,
-    page: u64,
-    one: &Page<A>,
-    other: &Page<A>,
     nearness: Nearness,
+    pair: PagePair<A>,
     listing: &mut Listing<A>,
 ) -> Result<(), AllocError>
-    requires old { length one.now.marks.items ≤ 2 ^ 20 }
-    requires new { length other.now.marks.items ≤ 2 ^ 20 }
-    ensures { OnOk result (listing.new ≡ kept_all
-        (page_differences nearness page (made_page one.now) (made_page other.now)) listing.old) }
+    requires old { length (made_page pair.old).marks ≤ 2 ^ 21 }
+    requires new { length (made_page pair.new).marks ≤ 2 ^ 21 }
+    ensures { OnOk result (listing.new ≡ page_kept nearness pair.number
+        (made_page pair.old) (made_page pair.new) listing.old) }
 {
+    tell_page(alloc, nearness, &pair, listing)?;
+    listing.end_page(pair)?;
+    Ok(())
+}
+
+/// Tells the differences of a page of both jobs.
+fn tell_page<A: Allocator + Copy>(
+    alloc: A,
+    nearness: Nearness,
+    pair: &PagePair<A>,
+    listing: &mut Listing<A>,
+) -> Result<(), AllocError>
+    requires old { length (made_page pair.now.old).marks ≤ 2 ^ 21 }
+    requires new { length (made_page pair.now.new).marks ≤ 2 ^ 21 }
+    ensures { OnOk result (listing.new ≡ kept_all (page_differences nearness pair.now.number
+        (made_page pair.now.old) (made_page pair.now.new)) listing.old) }
+{
+    let (one, other) = (&pair.old, &pair.new);
     let setting = Setting {
-        page,
+        page: pair.number,
         old_end: one.place,
         new_end: other.place,
         within: nearness.distance(),
     };
     tell_marks(alloc, nearness.any_order, &setting, one, other, listing)?;
-    tell_ends(page, one, other, listing)
+    tell_ends(pair.number, one, other, listing)?;
+    Ok(())
 }
 
 /// Tells the differences of the marks of two pages.
@@ -229,8 +253,8 @@ fn tell_marks<A: Allocator + Copy>(
     other: &Page<A>,
     listing: &mut Listing<A>,
 ) -> Result<(), AllocError>
-    requires old { length one.now.marks.items ≤ 2 ^ 20 }
-    requires new { length other.now.marks.items ≤ 2 ^ 20 }
+    requires old { length (made_page one.now).marks ≤ 2 ^ 21 }
+    requires new { length (made_page other.now).marks ≤ 2 ^ 21 }
     ensures { OnOk result (listing.new ≡ kept_all (marks_compared any_order setting.now
         (made_page one.now).marks (made_page other.now).marks) listing.old) }
 {
@@ -249,8 +273,8 @@ fn tell_ends<A: Allocator>(
     other: &Page<A>,
     listing: &mut Listing<A>,
 ) -> Result<(), AllocError>
-    requires old { length one.now.marks.items ≤ 2 ^ 20 }
-    requires new { length other.now.marks.items ≤ 2 ^ 20 }
+    requires old { length (made_page one.now).marks ≤ 2 ^ 21 }
+    requires new { length (made_page other.now).marks ≤ 2 ^ 21 }
     ensures { OnOk result (listing.new
         ≡ kept_all (ends_compared page (made_page one.now) (made_page other.now)) listing.old) }
 {

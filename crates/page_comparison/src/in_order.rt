@@ -26,14 +26,15 @@ pub(crate) fn tell_in_order<A: Allocator>(
     new: &[PlacedMark<A>],
     listing: &mut Listing<A>,
 ) -> Result<(), AllocError>
-    requires old { length old.now ≤ 2 ^ 20 }
-    requires new { length new.now ≤ 2 ^ 20 }
+    requires old { length old.now ≤ 2 ^ 21 }
+    requires new { length new.now ≤ 2 ^ 21 }
     ensures { OnOk result (listing.new ≡ kept_all
         (all_in_order setting.now (made_marks old.now) (made_marks new.now)) listing.old) }
 {
     let turns = old.len() + new.len();
     let mut at = Standing::first(setting.page);
-    let (mut one, mut other) = (old, new);
+    let mut one = old;
+    let mut other = new;
     for _ in 0..turns {
         let turn = next_turn(one, other, setting.within);
         tell_turn(setting, at, one, other, turn, listing)?;
@@ -86,16 +87,16 @@ pub(crate) fn next_place<A: Allocator>(marks: &[PlacedMark<A>], end: Place) -> P
 /// more. Behind them the next items stand at these places of OLD and NEW.
 fn tell_left_out<A: Allocator>(
     next: (Place, Place),
-    at: Standing,
+    start: Standing,
     old: &[PlacedMark<A>],
     new: &[PlacedMark<A>],
     listing: &mut Listing<A>,
 ) -> Result<(), AllocError>
     ensures { OnOk result (listing.new ≡ kept_all
-        (left_out next.0 next.1 at (made_marks old.now) (made_marks new.now)) listing.old) }
+        (left_out next.0 next.1 start (made_marks old.now) (made_marks new.now)) listing.old) }
 {
     let pairs = old.len().min(new.len());
-    let mut at = at;
+    let mut at = start;
     for index in 0..pairs {
         tell_pair(at, &old[index], &new[index], listing)?;
         at = at.behind(1, 1);
@@ -133,14 +134,14 @@ fn changed<A: Allocator>(one: &PlacedMark<A>, other: &PlacedMark<A>) -> PageChan
 /// Tells of marks that are only in OLD, where the next item of NEW stands at a place.
 fn tell_only_old<A: Allocator>(
     new_place: Place,
-    at: Standing,
+    start: Standing,
     marks: &[PlacedMark<A>],
     listing: &mut Listing<A>,
 ) -> Result<(), AllocError>
     ensures { OnOk result (listing.new
-        ≡ kept_all (only_old new_place at (made_marks marks.now)) listing.old) }
+        ≡ kept_all (only_old new_place start (made_marks marks.now)) listing.old) }
 {
-    let mut at = at;
+    let mut at = start;
     for mark in marks {
         listing.tell(at.difference(mark.place, new_place, PageChange::OnlyInOld))?;
         at = at.behind(1, 0);
@@ -151,14 +152,14 @@ fn tell_only_old<A: Allocator>(
 /// Tells of marks that are only in NEW, where the next item of OLD stands at a place.
 fn tell_only_new<A: Allocator>(
     old_place: Place,
-    at: Standing,
+    start: Standing,
     marks: &[PlacedMark<A>],
     listing: &mut Listing<A>,
 ) -> Result<(), AllocError>
     ensures { OnOk result (listing.new
-        ≡ kept_all (only_new old_place at (made_marks marks.now)) listing.old) }
+        ≡ kept_all (only_new old_place start (made_marks marks.now)) listing.old) }
 {
-    let mut at = at;
+    let mut at = start;
     for mark in marks {
         listing.tell(at.difference(old_place, mark.place, PageChange::OnlyInNew))?;
         at = at.behind(0, 1);

@@ -26,11 +26,7 @@ impl Nearness {
 }
 
 /// Whether two marks are the same but for their edges, which lie within a distance.
-pub(crate) fn is_near<A: Allocator>(
-    one: &OwnedMark<A>,
-    other: &OwnedMark<A>,
-    within: u64,
-) -> bool
+pub(crate) fn is_near<A: Allocator>(one: &OwnedMark<A>, other: &OwnedMark<A>, within: u64) -> bool
     ensures { result ≡ is_near_shape within
         (shape_of_owned one.now) (shape_of_owned other.now) }
 {

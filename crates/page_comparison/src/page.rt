@@ -83,12 +83,7 @@ impl<A: Allocator + Copy> Page<A> {
     }
 
     /// Takes a mark.
-    fn push(
-        &mut self,
-        alloc: A,
-        mark: &OwnedMark<A>,
-        place: Place,
-    ) -> Result<(), AllocError>
+    fn push(&mut self, alloc: A, mark: &OwnedMark<A>, place: Place) -> Result<(), AllocError>
         ensures { OnOk result (made_page self.new ≡ record (made_page self.old) {
           marks = (made_page self.old).marks
               ++ record { place = place; shape = shape_of_owned mark.now } ∷ [];

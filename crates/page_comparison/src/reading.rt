@@ -1,16 +1,16 @@
 //! Reads the pages of a job that is carried out.
 
-ghost use Rattle.std.specs.Prelude.{◌≡◌, ◌≤◌, ◌^◌, [], IfErr, IfOk, IsFalse, OnOk, false, length, true};
+ghost use Rattle.std.specs.Prelude.{◌≡◌, ◌+◌, ◌≤◌, ◌^◌, [], IfErr, IfOk, IsFalse, OnOk, false, length};
 ghost use Rattle.comparison.specs.Comparing.{FollowsOn, still_made};
 ghost use Rattle.comparison.specs.Running.{is_open};
 ghost use Rattle.page_comparison.specs.Pages.{made_page};
 ghost use Rattle.page_comparison.specs.Reading.{IsErrorOfPages, IsOwnError, ReadsPage};
-ghost use Rattle.page_comparison.specs.Reading.{TakesNext, is_over, is_unread};
+ghost use Rattle.page_comparison.specs.Reading.{TakesEvent, TakesNext, is_over, is_unread};
 
 use crate::differences::{MOST_MARKS, PageOf, PagesError};
 use crate::page::Page;
 use comparison::{Follower, Unread};
-use std::alloc::Allocator;
+use std::alloc::{AllocError, Allocator};
 use streams::Source;
 
 /// All marks of a page, and its end.
@@ -37,7 +37,7 @@ pub(crate) fn read_page<S: Source, A: Allocator + Copy, P: Allocator>(
     requires { IsFalse (S.state source.old).failed }
     ensures read { IfOk result (λ page. ReadsPage (S.state source.old) (S.state source.new)
         job.old job.new (made_page page)) }
-    ensures few { IfOk result (λ page. length page.marks.items ≤ 2 ^ 20) }
+    ensures few { IfOk result (λ page. length (made_page page).marks ≤ 2 ^ 21) }
     ensures number { job.new.run.number ≡ job.old.run.number }
     ensures failed { (S.state source.new).failed ≡ is_unread page_of.which result }
     ensures err { IfErr result (λ error. IsOwnError page_of.which error × IsErrorOfPages error) }
@@ -61,7 +61,7 @@ fn fill_page<S: Source, A: Allocator + Copy, P: Allocator>(
     requires unended { is_over job.old ≡ false }
     ensures read { IfOk result (λ page. ReadsPage (S.state source.old) (S.state source.new)
         job.old job.new (made_page page)) }
-    ensures few { IfOk result (λ page. length page.marks.items ≤ 2 ^ 20) }
+    ensures few { IfOk result (λ page. length (made_page page).marks ≤ 2 ^ 21) }
     ensures number { job.new.run.number ≡ job.old.run.number }
     ensures failed { (S.state source.new).failed ≡ is_unread page_of.which result }
     ensures err { IfErr result (λ error. IsOwnError page_of.which error × IsErrorOfPages error) }
@@ -90,21 +90,42 @@ fn take_next<S: Source, A: Allocator + Copy, P: Allocator>(
     requires { IsFalse (S.state source.old).failed }
     ensures taken { IfOk result (λ came. TakesNext (S.state source.old) (S.state source.new)
         job.old job.new (made_page page.old) (made_page page.new) came) }
+    ensures few { OnOk result (length (made_page page.new).marks
+        ≤ length (made_page page.old).marks + 1) }
     ensures number { job.new.run.number ≡ job.old.run.number }
     ensures failed { (S.state source.new).failed ≡ is_unread page_of.which result }
     ensures err { IfErr result (λ error. IsOwnError page_of.which error × IsErrorOfPages error) }
 {
     come(page_of, source, job)?;
+    let came = take_event(alloc, job, page)?;
+    Ok(came)
+}
+
+/// Takes the event that has come. None: none has, and the job is over.
+fn take_event<A: Allocator + Copy, P: Allocator>(
+    alloc: A,
+    job: &mut Follower<'_, A, P>,
+    page: &mut Page<A>,
+) -> Result<Option<bool>, AllocError>
+    requires { still_made job.old ≡ [] → is_open job.old.run.progress ≡ false }
+    ensures taken { IfOk result (λ came. TakesEvent job.old job.new
+        (made_page page.old) (made_page page.new) came) }
+    ensures few { OnOk result (length (made_page page.new).marks
+        ≤ length (made_page page.old).marks + 1) }
+    ensures number { job.new.run.number ≡ job.old.run.number }
+{
     let place = job.place();
-    let goes_on = match job.next() {
+    match job.next() {
         None => {
             page.end_at(place);
-            return Ok(None);
+            Ok(None)
         }
-        Some(event) => page.take(alloc, event, place)?,
-    };
-    job.pass();
-    Ok(Some(goes_on))
+        Some(event) => {
+            let goes_on = page.take(alloc, event, place)?;
+            job.pass();
+            Ok(Some(goes_on))
+        }
+    }
 }
 
 /// Goes on with a job until there is an event that is not taken, or it is over.

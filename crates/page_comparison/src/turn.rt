@@ -85,11 +85,7 @@ fn leaving(old: usize, new: usize) -> Turn
 
 /// The nearest way to go on alike, or else the next two marks are a pair.
 #[tactic(auto, unfolding(crate::specs::InOrder::nearest))]
-fn nearest<A: Allocator>(
-    old: &[PlacedMark<A>],
-    new: &[PlacedMark<A>],
-    within: u64,
-) -> Turn
+fn nearest<A: Allocator>(old: &[PlacedMark<A>], new: &[PlacedMark<A>], within: u64) -> Turn
     requires old { 0 < length old.now }
     requires new { 0 < length new.now }
     ensures turn { result ≡ nearest within (made_marks old.now) (made_marks new.now) }
@@ -143,6 +139,21 @@ fn resumed_by<A: Allocator>(
             return Some(turn);
         }
     }
+    last_way(old, new, within, together)
+}
+
+/// The way that leaves so many marks of OLD out and none of NEW.
+fn last_way<A: Allocator>(
+    old: &[PlacedMark<A>],
+    new: &[PlacedMark<A>],
+    within: u64,
+    together: usize,
+) -> Option<Turn>
+    ensures found { result ≡ (if is_resumed within (made_marks old.now) (made_marks new.now)
+        (leaving together 0) then Some (leaving together 0) else None) }
+    ensures fits { IfSome result (λ turn.
+        (turn.old ≤ length old.now) × (turn.new ≤ length new.now)) }
+{
     let turn = leaving(together, 0);
     if is_resumed(old, new, turn, within) {
         Some(turn)
