@@ -30,8 +30,8 @@ use Rattle.page_comparison.specs.Comparison.{IsPageComparison, NewFailing, OldFa
 use Rattle.page_comparison.specs.Comparison.{ends_compared, page_differences, pages_compared, pairs_of, same_or, setting_of}
 use Rattle.page_comparison.specs.Kept.{Kept, kept_all, kept_told, none_kept, page_differs, page_kept, page_over, pages_kept}
 use Rattle.page_comparison.specs.Pages.{MadePage, no_page, page_counted, pair_at, paired, pages_counted, pages_of}
-use Rattle.page_comparison.specs.Reading.{AreCompared, IsErrorOfPages, IsOwnError, IsRead, IsRight, MayCome, NewFailsRight, PagesGo, first_page, is_over}
-use Rattle.page_comparison.specs.Reading.{is_unread, is_unread_error, later_pages}
+use Rattle.page_comparison.specs.Reading.{AreCompared, IsErrorOfPages, IsOwnError, IsRead, IsRight, MayCome, NewFailsRight}
+use Rattle.page_comparison.specs.Reading.{PagesGo, first_page, is_over, is_unread, is_unread_error, later_pages}
 use Rattle.page_comparison.proofs.Keeping.{told_of_kept}
 use Rattle.page_comparison.proofs.PageSteps.{over_tells}
 

@@ -13,19 +13,21 @@ use Rattle.page_comparison.proofs.Steps.{few_marks, rest_marks}
 module _ {X : Type 0} (p : X → Bool) where
   find_behind : (xs ys : List X) → find p xs ≡ None → find p (xs ++ ys) ≡ find p ys
   find_behind [] ys e = refl
-  find_behind (x ∷ xs) ys e = by_test (p x) e
+  find_behind (x ∷ xs) ys e = by_test (p x) (λ h. find_behind xs ys h) e
     where
-      by_test : (t : Bool) → cond t (Some x) (find p xs) ≡ None → cond t (Some x) (find p (xs ++ ys)) ≡ find p ys
-      by_test true h = absurd cc
-      by_test false h = find_behind xs ys h
+      by_test : (t : Bool) → (find p xs ≡ None → find p (xs ++ ys) ≡ find p ys) → cond t (Some x) (find p xs) ≡ None →
+          cond t (Some x) (find p (xs ++ ys)) ≡ find p ys
+      by_test true rest h = absurd cc
+      by_test false rest h = rest h
 
   find_before : (xs ys : List X) (y : X) → find p xs ≡ Some y → find p (xs ++ ys) ≡ Some y
   find_before [] ys y e = absurd cc
-  find_before (x ∷ xs) ys y e = by_test (p x) e
+  find_before (x ∷ xs) ys y e = by_test (p x) (λ h. find_before xs ys y h) e
     where
-      by_test : (t : Bool) → cond t (Some x) (find p xs) ≡ Some y → cond t (Some x) (find p (xs ++ ys)) ≡ Some y
-      by_test true h = h
-      by_test false h = find_before xs ys y h
+      by_test : (t : Bool) → (find p xs ≡ Some y → find p (xs ++ ys) ≡ Some y) → cond t (Some x) (find p xs) ≡ Some y →
+          cond t (Some x) (find p (xs ++ ys)) ≡ Some y
+      by_test true rest h = h
+      by_test false rest h = rest h
 
 leavings_open : (together times : ℕ) → leavings together (suc times) ≡ splits 0 together ++ leavings (together + 1) times
 unfolding leavings

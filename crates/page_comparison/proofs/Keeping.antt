@@ -1,7 +1,7 @@
 -- What is kept of differences, one list after another, and what is told of it in the end.
 use Rattle.std.proofs.Common.{◌≡◌, ◌+◌, ◌<◌, ◌≤◌, ℕ, min, Bool, true, false, List, [], ◌∷◌, ◌++◌, length, take, flat_map}
-use Rattle.std.proofs.Common.{append-nil, append_assoc, ap, arith, cond, count_by, if◌then◌else◌, length-take, nat_lt, refl, subst, sym, ◌∙◌}
-use Rattle.std.proofs.Common.{take_all}
+use Rattle.std.proofs.Common.{append-nil, append_assoc, ap, arith, cond, count_by, if◌then◌else◌, length-take, nat_lt, refl, subst, sym}
+use Rattle.std.proofs.Common.{take_all, ◌∙◌}
 use Rattle.std.proofs.lemmas.Bool.{le-ltb, lt-ltb, ltb-false, ltb-true}
 use Rattle.std.proofs.lemmas.List.{length_push, take-append-le}
 use Rattle.std.proofs.lemmas.List.Concat.{flat_map-append}

@@ -1,3 +1,4 @@
+pub mod Alike
 pub mod Ending
 pub mod Finding
 pub mod Free

@@ -47,9 +47,9 @@ abbrev pub mark_told : Setting → List MadeMark → (number : ℕ) → MadeMark
 mark_told setting new number a earlier None =
     difference_at (stand_at setting.page number (length new + 1)) a.place setting.new_end OnlyInOld ∷ []
 mark_told setting new number a earlier (Some i) =
+    let next = next_place setting.new_end (drop i new) in
     if list_any (is_crossed i (edges_of a.shape)) earlier
-    then difference_at (stand_at setting.page number (i + 1)) a.place (next_place setting.new_end (drop i new)) Covers ∷ []
-    else []
+    then difference_at (stand_at setting.page number (i + 1)) a.place next Covers ∷ [] else []
 
 -- the marks of NEW from this number on that have no match
 abbrev pub free_told : Setting → (old_mark number : ℕ) → List MadeMark → List Bool → List PageDifference

@@ -23,7 +23,8 @@ use Rattle.page_comparison.specs.declared.setting.Setting.{Setting}
 use Rattle.page_comparison.specs.AnyOrder.{all_in_any_order, stand_at}
 use Rattle.page_comparison.specs.InOrder.{all_in_order}
 use Rattle.page_comparison.specs.Marks.{distance_of}
-use Rattle.page_comparison.specs.Pages.{MadeMark, MadePage, MadePair, made_pair, pair_at, paired, pages_counted, pages_of}
+use Rattle.page_comparison.specs.Pages.{MadeMark, MadePage, MadePair, made_pair, pair_at, paired, pages_counted}
+use Rattle.page_comparison.specs.Pages.{pages_of}
 use Rattle.page_comparison.specs.Told.{difference_at}
 
 -- ---- one page

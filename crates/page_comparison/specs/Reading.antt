@@ -32,7 +32,7 @@ is_over_by None open_still = not open_still
 abbrev pub is_over : Following → Bool
 is_over following = is_over_by (next_of following) (is_open following.run.progress)
 
--- it may still make this, and end at this place; of a job that is over nothing more comes, and its end is where it stands
+-- it may still make this, and end at this place; of a job that is over nothing more comes, and it ends where it stands
 abbrev pub MayCome : Following → List Made → ℕ → Type 0
 MayCome following rest end = is_over following ≡ true → (rest ≡ []) × (end ≡ following.run.place)
 
@@ -91,11 +91,12 @@ later_pages (page ∷ pages) = pages
 -- of what was made and what comes behind it, this page is the first, and those behind it come next
 abbrev pub IsFront : ℕ → MadePage → (made rest : List Made) → Type 0
 IsFront end page made rest =
-    (first_page end (pages_of end (made ++ rest)) ≡ page) × (later_pages (pages_of end (made ++ rest)) ≡ pages_of end rest)
+    (first_page end (pages_of end (made ++ rest)) ≡ page)
+    × (later_pages (pages_of end (made ++ rest)) ≡ pages_of end rest)
 
 -- a page was read behind what was made before; of a job that is over nothing more is read
-pub record IsRead (printer : Printer) (panel : Panel) (first now : SourceState) (taken : List Made) (old new : Following)
-    (page : MadePage) : Type 0 where
+pub record IsRead (printer : Printer) (panel : Panel) (first now : SourceState) (taken : List Made)
+    (old new : Following) (page : MadePage) : Type 0 where
   pub made : List Made
   pub followed : HasFollowed printer panel first now (taken ++ made) new
   pub front : (rest : List Made) (end : ℕ) → MayCome new rest end → IsFront end page made rest
@@ -154,8 +155,8 @@ IsRight nearness most number printer panel old_first old_now new_first new_now t
     ByReads old_first old_now (λ old. ByReads new_first new_now (λ new.
     IsPageComparison nearness most number printer panel old new told))
 
--- Of two jobs that were followed so far NEW fails so, and OLD is carried out to its end from here: whatever the relation
--- is, that is right.
+-- Of two jobs that were followed so far NEW fails so, and OLD is carried out to its end from here: this is right,
+-- whatever the relation is.
 abbrev pub NewFailsRight : (old_now old_now' : SourceState) → (old : Following) → Failure → ToldPages → Type 0
 NewFailsRight old_now old_now' old failure told =
     (nearness : Nearness) (most : Most) (number : ℕ) (printer : Printer) (panel : Panel)

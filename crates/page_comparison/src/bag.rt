@@ -1,7 +1,8 @@
 //! The marks of NEW's page, of which some are matched with marks of OLD.
 
 ghost use Rattle.std.specs.Prelude.{◌≡◌, ◌++◌, ◌+◌, ◌<◌, ◌^◌, ◌∷◌, ◌==◌, [], IfOk, IfSome};
-ghost use Rattle.std.specs.Prelude.{Bool, OnOk, false, if◌then◌else◌, length, map, slice_get, slice_set, true};
+ghost use Rattle.std.specs.Prelude.{Bool, OnOk, false, if◌then◌else◌, length};
+ghost use Rattle.std.specs.Prelude.{map, slice_get, slice_set, true};
 ghost use Rattle.std.specs.List.{list_any};
 ghost use Rattle.page_comparison.specs.AnyOrder.{first_free, is_crossed, is_match, none_matched};
 ghost use Rattle.page_comparison.specs.Pages.{made_mark, made_marks};

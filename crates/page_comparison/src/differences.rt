@@ -42,8 +42,8 @@ pub enum PageChange {
     OnlyInNew,
     /// The page ends with other values, or one of the jobs does not have it.
     PageEnds,
-    /// The mark of OLD overlaps one that OLD makes before it and NEW behind it: one covers the other
-    /// otherwise.
+    /// The mark of OLD overlaps one that OLD makes before it and NEW behind it: one covers the
+    /// other otherwise.
     Covers,
 }
 

@@ -5,7 +5,8 @@ ghost use Rattle.page_comparison.specs.InOrder.{all_in_order, turn_told};
 ghost use Rattle.page_comparison.specs.Kept.{kept_all, kept_with};
 ghost use Rattle.page_comparison.specs.Marks.{changed};
 ghost use Rattle.page_comparison.specs.Pages.{made_mark, made_marks};
-ghost use Rattle.page_comparison.specs.Told.{difference_at, left_out, next_place, only_new, only_old};
+ghost use Rattle.page_comparison.specs.Told.{difference_at, left_out, next_place};
+ghost use Rattle.page_comparison.specs.Told.{only_new, only_old};
 
 use crate::differences::PageChange;
 use crate::listing::Listing;

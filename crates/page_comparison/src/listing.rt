@@ -1,7 +1,6 @@
 //! The differences that are kept while pages are compared.
 
 ghost use Rattle.std.specs.Prelude.{◌≡◌, OnOk};
-ghost use Rattle.sinks.specs.declared.counts.Counts.{Counts};
 ghost use Rattle.page_comparison.specs.Comparison.{same_or, told_pages};
 ghost use Rattle.page_comparison.specs.Kept.{
   kept_told,

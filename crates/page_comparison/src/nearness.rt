@@ -1,6 +1,6 @@
 //! Whether two marks are near each other.
 
-ghost use Rattle.std.specs.Prelude.{◌≡◌, ◌↔◌, ◌&&◌, ◌==◌, IsTrue, unsigned_abs, ◌-ℤ◌, nat_le};
+ghost use Rattle.std.specs.Prelude.{◌≡◌, ◌↔◌, ◌&&◌, ◌==◌, IsTrue};
 ghost use Rattle.std.specs.Ordering.{int_eq};
 ghost use Rattle.device_profile.specs.Faces.{is_same_request};
 ghost use Rattle.page_env.specs.Mark.{pixels_per_inch};

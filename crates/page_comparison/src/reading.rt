@@ -1,6 +1,7 @@
 //! Reads the pages of a job that is carried out.
 
-ghost use Rattle.std.specs.Prelude.{◌≡◌, ◌+◌, ◌≤◌, ◌^◌, [], IfErr, IfOk, IsFalse, OnOk, false, length};
+ghost use Rattle.std.specs.Prelude.{◌≡◌, ◌+◌, ◌≤◌, ◌^◌, [], IfErr, IfOk, IsFalse, OnOk, false};
+ghost use Rattle.std.specs.Prelude.{length};
 ghost use Rattle.comparison.specs.Comparing.{FollowsOn, still_made};
 ghost use Rattle.comparison.specs.Running.{is_open};
 ghost use Rattle.page_comparison.specs.Pages.{made_page};

@@ -6,7 +6,8 @@ use Rattle.page_comparison.specs.Comparison.{told_pages}
 use Rattle.page_comparison.specs.Kept.{Kept}
 use Rattle.page_comparison.specs.Pages.{made_page}
 use Rattle.page_comparison.specs.Reading.{NewFailsRight, PagesCompare}
-use Rattle.page_comparison.proofs.Ending.{go_further, go_none, no_read_of_new, no_read_of_old, old_fails, own_errors, own_no_new, pages_over}
+use Rattle.page_comparison.proofs.Ending.{go_further, go_none, no_read_of_new, no_read_of_old, old_fails, own_errors, own_no_new}
+use Rattle.page_comparison.proofs.Ending.{pages_over}
 use Rattle.page_comparison.proofs.Keeping.{page_idle}
 use Rattle.page_comparison.proofs.compare.compare_all.Goals as goal
 
