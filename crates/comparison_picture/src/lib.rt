@@ -17,5 +17,4 @@ mod sheets;
 
 pub use document::push_document;
 pub use drawn_page::{DrawnPage, paper_of};
-pub use lists::change_name;
 pub use picture::push_picture;

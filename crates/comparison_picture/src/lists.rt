@@ -93,7 +93,7 @@ fn push_more<A: Allocator>(
 
 /// What differs, in words.
 #[tactic(auto, unfolding(crate::specs::Lists::change_name))]
-pub fn change_name(change: PageChange) -> &'static [u8]
+fn change_name(change: PageChange) -> &'static [u8]
     ensures { result.now ≡ change_name change }
 {
     match change {
