@@ -1,3 +1,4 @@
 mod Compared
+mod Drawings
 mod Names
 mod Pairs

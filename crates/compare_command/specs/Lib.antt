@@ -5,3 +5,5 @@ pub mod Outcomes
 pub mod Telling
 pub mod Compare
 pub mod Golden
+pub mod Pictures
+pub mod Drawing

@@ -11,6 +11,7 @@ use Rattle.sinks.specs.declared.counts.Counts.{Counts}
 use Rattle.comparison.specs.declared.difference.Comparison.{Comparison}
 use Rattle.comparison.specs.declared.difference.Comparison.TheVariants.{Same, Differs, OldFails, NewFails}
 use Rattle.comparison.specs.Comparison.{IsComparison}
+use Rattle.page_comparison.specs.declared.differences.Most.{Most}
 use Rattle.page_comparison.specs.declared.differences.Nearness.{Nearness as PageNearness}
 use Rattle.page_comparison.specs.declared.differences.PageComparison.{PageComparison}
 use Rattle.page_comparison.specs.declared.differences.PageComparison.TheVariants as pages
@@ -29,13 +30,17 @@ near_by nearness = record { any_order = nearness.any_order; within = nearness.wi
 abbrev pub is_strict : Nearness → Bool
 is_strict nearness = not nearness.any_order && (nearness.within == 0)
 
+-- so many differences, and no page to be drawn
+abbrev pub most_listed : ℕ → Most
+most_listed most = record { differences = most; pages = 0 }
+
 abbrev pub first_manner : Nearness → Manner
-first_manner nearness = if is_strict nearness then ByEvents else ByPages (near_by nearness) 1
+first_manner nearness = if is_strict nearness then ByEvents else ByPages (near_by nearness) (most_listed 1)
 
 -- the first difference is found event by event where marks have to be the same so; else pages are compared
 abbrev pub manner_of : Nearness → Extent → Manner
 manner_of nearness First = first_manner nearness
-manner_of nearness (All most) = ByPages (near_by nearness) most
+manner_of nearness (All most) = ByPages (near_by nearness) (most_listed most)
 
 -- ---- what comes of it
 

@@ -158,7 +158,7 @@ fn compare_on_printers<'n, J: Jobs<'n>, O: Outlet, E: Outlet>(
 }
 
 /// Writes what was found on printers of these names.
-fn write_found<O: Outlet>(
+pub(crate) fn write_found<O: Outlet>(
     alloc: Global,
     asked: &CompareAsked<'_, '_>,
     names: &[Vec<u8>],

@@ -14,7 +14,7 @@ use crate::stops::{Stop, stop_of_pages, stop_of_reading};
 use comparison::{Comparison, compare_jobs};
 use device_profile::Profile;
 use named_inputs::Jobs;
-use page_comparison::{Nearness, compare_pages};
+use page_comparison::{Most, Nearness, compare_pages};
 use sinks::Counts;
 use std::alloc::Global;
 use streams::Source;
@@ -137,7 +137,7 @@ fn compare_all<S: Source>(
     profile: &Profile,
     number: u64,
     nearness: Nearness,
-    most: u64,
+    most: Most,
 ) -> Result<Outcome, Stop>
     requires old_job { IsFalse (S.state old_job.old).failed }
     requires new_job { IsFalse (S.state new_job.old).failed }

@@ -2,11 +2,12 @@
 
 ghost use Rattle.std.specs.Prelude.{◌≡◌};
 ghost use Rattle.compare_command.specs.Outcomes.{counts_of, counts_of_pages, first_manner};
-ghost use Rattle.compare_command.specs.Outcomes.{is_strict, manner_of, near_by, same_counts};
+ghost use Rattle.compare_command.specs.Outcomes.{is_strict, manner_of, most_listed, near_by};
+ghost use Rattle.compare_command.specs.Outcomes.{same_counts};
 ghost use Rattle.compare_command.specs.Outcomes.{status_by};
 
 use comparison::Comparison;
-use page_comparison::{Nearness as PageNearness, PageComparison};
+use page_comparison::{Most, Nearness as PageNearness, PageComparison};
 use requests::{Extent, Nearness, Status};
 use sinks::Counts;
 use std::alloc::Global;
@@ -17,7 +18,7 @@ pub(crate) enum Manner {
     /// Event by event, up to the first difference.
     ByEvents,
     /// Page by page, up to so many differences.
-    ByPages { nearness: PageNearness, most: u64 },
+    ByPages { nearness: PageNearness, most: Most },
 }
 
 /// What comes of two jobs on a printer.
@@ -43,7 +44,7 @@ pub(crate) fn manner_of(nearness: Nearness, extent: Extent) -> Manner
         Extent::First => first_manner(nearness),
         Extent::All { most } => Manner::ByPages {
             nearness: near_by(nearness),
-            most,
+            most: most_listed(most),
         },
     }
 }
@@ -57,7 +58,17 @@ fn first_manner(nearness: Nearness) -> Manner
     }
     Manner::ByPages {
         nearness: near_by(nearness),
-        most: 1,
+        most: most_listed(1),
+    }
+}
+
+/// So many differences, and no page to be drawn.
+fn most_listed(most: u64) -> Most
+    ensures { result ≡ most_listed most }
+{
+    Most {
+        differences: most,
+        pages: 0,
     }
 }
 
@@ -68,7 +79,7 @@ fn is_strict(nearness: Nearness) -> bool
     !nearness.any_order && nearness.within == 0
 }
 
-fn near_by(nearness: Nearness) -> PageNearness
+pub(crate) fn near_by(nearness: Nearness) -> PageNearness
     ensures { result ≡ near_by nearness }
 {
     PageNearness {

@@ -286,7 +286,7 @@ fn push_difference_for(
 }
 
 /// The name of the printer of this number, from 1.
-fn name_of(names: &[Vec<u8>], number: u64) -> &[u8]
+pub(crate) fn name_of(names: &[Vec<u8>], number: u64) -> &[u8]
     ensures { result.now ≡ name_of (map (λ name. name.items) names.now) number }
 {
     match names.get(number.saturating_sub(1) as usize) {

@@ -1,6 +1,6 @@
 -- What comparisons leave that are made on files.
-use Rattle.std.specs.Prelude.{◌≡◌, ◌⊎◌, ◌&&◌, ◌||◌, ℕ, Bool, IsFalse, List, [], ◌∷◌, ◌++◌, flat_map, map}
-use Rattle.std.specs.Prelude.{None, false, length, nat_lt}
+use Rattle.std.specs.Prelude.{◌≡◌, ◌⊎◌, ℕ, Bool, IsFalse, List, [], ◌∷◌, ◌++◌, flat_map, map, Option, None, Some}
+use Rattle.std.specs.Prelude.{false, option_map}
 use Rattle.requests.specs.declared.compare_words.CompareWords.{CompareWords}
 use Rattle.requests.specs.declared.compare_words.ComparedJobs.{ComparedJobs}
 use Rattle.requests.specs.declared.compare_words.ComparedJobs.TheVariants.{Pair, Golden as InFolder}
@@ -13,11 +13,11 @@ use Rattle.compare_command.specs.Compare.{Asked, LeavesCompared}
 use Rattle.compare_command.specs.Golden.{Golden}
 use Rattle.job_reports.specs.Pipes.{RefusesPipe}
 use Rattle.many_jobs.specs.FleetFile.{AreFleets, FleetText, words_named}
-use Rattle.named_inputs.specs.FileJobs.{is_input}
 use Rattle.named_inputs.specs.Texts.{text_named}
 use Rattle.many_requests.specs.Checks.{LacksSome, UsesAll}
+use Rattle.many_requests.specs.DrawnJobs.{LeavesDrawnOnFiles}
 use Rattle.many_requests.specs.GoldenJobs.{LeavesInFolder, golden_in}
-use Rattle.many_requests.specs.Reads.{read_for_each}
+use Rattle.many_requests.specs.Reads.{read_for_each, reads_input_twice}
 
 abbrev pub fleet_paths : CompareWords → List (List ℕ)
 fleet_paths words = map (λ word. word.now) words.fleets.items
@@ -48,12 +48,6 @@ golden_by words printers = record {
 abbrev pub printers_by : CompareWords → List FleetText → List (List ℕ)
 printers_by words fleets = map (λ word. word.now) words.printers.items ++ flat_map words_named fleets
 
--- standard input would be read more than once: for several printers, or as both jobs
-abbrev pub reads_input_twice : Asked → Bool
-reads_input_twice asked =
-    (nat_lt 1 (length asked.printers) && (is_input asked.old_name || is_input asked.new_name))
-    || (is_input asked.old_name && is_input asked.new_name)
-
 -- The jobs are compared, where standard input is read once at most, on the printers of the texts in the history; or one
 -- is refused that can be read only once, nothing is written and nothing read.
 abbrev pub LeavesOnFiles : Asked → Status → List FileUse → List FileUse → OutletState → OutletState → OutletState →
@@ -65,11 +59,19 @@ LeavesOnFiles asked status used used' out out' err err' =
     err')
     ⊎ (RefusesPipe (asked.old_name ∷ asked.new_name ∷ []) read_for_each status err err' × (out' ≡ out) × (used' ≡ used))
 
+-- of two jobs, where what differs is drawn into a file at a path, or is not
+abbrev pub LeavesPair : Option (List ℕ) → Asked → Status → List FileUse → List FileUse → OutletState → OutletState →
+    OutletState → OutletState → Type 0
+LeavesPair None asked status used used' out out' err err' = LeavesOnFiles asked status used used' out out' err err'
+LeavesPair (Some path) asked status used used' out out' err err' =
+    LeavesDrawnOnFiles asked path status used used' out out' err err'
+
 -- of two jobs, or of each of many with the one of its name in a folder
 abbrev pub LeavesWith : ComparedJobs → CompareWords → List (List ℕ) → Status → List FileUse → List FileUse →
     OutletState → OutletState → OutletState → OutletState → Type 0
 LeavesWith (Pair old_job new_job) words printers status used used' out out' err err' =
-    LeavesOnFiles (asked_by words old_job.now new_job.now printers) status used used' out out' err err'
+    LeavesPair (option_map (λ path. path.now) words.picture) (asked_by words old_job.now new_job.now printers) status
+    used used' out out' err err'
 LeavesWith (InFolder folder jobs) words printers status used used' out out' err err' =
     LeavesInFolder (golden_in folder.now (map (λ job. job.now) jobs.items) (golden_by words printers)) status used used'
     out out' err err'

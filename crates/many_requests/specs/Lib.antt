@@ -1,5 +1,6 @@
 pub mod Checks
 pub mod Comparisons
+pub mod DrawnJobs
 pub mod GoldenJobs
 pub mod Inputs
 pub mod Lists

@@ -1,14 +1,17 @@
 //! Comparisons of jobs by request, on files.
 
 ghost use Rattle.std.specs.Prelude.{◌≢◌, [], ◌∷◌, Contains, IfNone, IfSome, IsFalse, map};
+ghost use Rattle.std.specs.Prelude.{option_map};
 ghost use Rattle.compare_command.specs.Compare.{asked_for};
 ghost use Rattle.compare_command.specs.Golden.{golden_for};
-ghost use Rattle.many_requests.specs.Comparisons.{LeavesComparison, LeavesOnFiles, LeavesWith};
-ghost use Rattle.many_requests.specs.Comparisons.{reads_input_twice};
+ghost use Rattle.many_requests.specs.Comparisons.{LeavesComparison, LeavesOnFiles, LeavesPair};
+ghost use Rattle.many_requests.specs.Comparisons.{LeavesWith};
+ghost use Rattle.many_requests.specs.Reads.{reads_input_twice};
 ghost use Rattle.many_requests.specs.GoldenJobs.{LeavesInFolder, golden_in};
 ghost use Rattle.named_inputs.specs.FileJobs.{is_input};
 ghost use Rattle.requests.specs.Comparisons.{NamesCompared};
 
+use crate::drawn_jobs::compare_drawn_on_files;
 use crate::golden_jobs::{compare_golden_jobs, golden_jobs};
 use crate::inputs::READ_FOR_EACH;
 use crate::many::{all_printers, read_fleets};
@@ -16,12 +19,12 @@ use compare_command::{CompareAsked, GoldenAsked, compare};
 use job_reports::{is_pipe, refuse_pipe};
 use named_inputs::{FileJobs, FileTexts, is_input};
 use requests::{CompareWords, ComparedJobs, Status};
-use std::io::Input;
+use std::io::{Input, Print};
 use std::rt::Files;
 use streams::{Error, FilesUsed, Outlet};
 
 /// Compares jobs. The fleets are read first, then the profiles, then the jobs.
-pub fn compare_asked<R: Files + Input + AllocGlobal, O: Outlet, E: Outlet>(
+pub fn compare_asked<R: Files + Input + Print + AllocGlobal, O: Outlet, E: Outlet>(
     rt: &R,
     words: &CompareWords<'_>,
     used: &mut FilesUsed,
@@ -48,7 +51,7 @@ pub fn compare_asked<R: Files + Input + AllocGlobal, O: Outlet, E: Outlet>(
 }
 
 /// Compares the jobs that words name, on these printers.
-fn compare_with<R: Files + Input + AllocGlobal, O: Outlet, E: Outlet>(
+fn compare_with<R: Files + Input + Print + AllocGlobal, O: Outlet, E: Outlet>(
     rt: &R,
     words: &CompareWords<'_>,
     printers: &[&str],
@@ -74,7 +77,7 @@ fn compare_with<R: Files + Input + AllocGlobal, O: Outlet, E: Outlet>(
                 extent: words.extent,
                 is_named: false,
             };
-            compare_on_files(rt, &asked, used, stdout, stderr)
+            compare_pair(rt, &asked, words.picture, used, stdout, stderr)
         }
         ComparedJobs::Golden { folder, jobs } => {
             let asked = GoldenAsked {
@@ -86,6 +89,28 @@ fn compare_with<R: Files + Input + AllocGlobal, O: Outlet, E: Outlet>(
             };
             compare_in_folder(rt, folder, jobs.as_slice(), &asked, used, stdout, stderr)
         }
+    }
+}
+
+/// Compares two jobs, and draws what differs in the place of the file at a path, if one is told.
+fn compare_pair<'r, R: Files + Input + Print + AllocGlobal, O: Outlet, E: Outlet>(
+    rt: &'r R,
+    asked: &CompareAsked<'_, 'r>,
+    picture: Option<&'r str>,
+    used: &mut FilesUsed,
+    stdout: &mut O,
+    stderr: &mut E,
+) -> Status
+    requires stdout { IsFalse (O.state stdout.old).failed }
+    requires stderr { IsFalse (E.state stderr.old).failed }
+    requires some { asked.now.printers.now ≢ [] }
+    ensures { LeavesPair (option_map (λ path. path.now) picture.entry) (asked_for asked.now) result
+        used.old used.new
+        (O.state stdout.old) (O.state stdout.new) (E.state stderr.old) (E.state stderr.new) }
+{
+    match picture {
+        Some(path) => compare_drawn_on_files(rt, asked, path, used, stdout, stderr),
+        None => compare_on_files(rt, asked, used, stdout, stderr),
     }
 }
 
@@ -115,7 +140,7 @@ fn compare_on_files<'r, R: Files + Input + AllocGlobal, O: Outlet, E: Outlet>(
 }
 
 /// The job that would be read again, and whose bytes are gone once they are read.
-fn gone_once_read<'n, R: Files>(rt: &R, asked: &CompareAsked<'_, 'n>) -> Option<&'n str>
+pub(crate) fn gone_once_read<'n, R: Files>(rt: &R, asked: &CompareAsked<'_, 'n>) -> Option<&'n str>
     ensures once { IfNone result (IsFalse (reads_input_twice (asked_for asked.now))) }
     ensures named { IfSome result (λ name. Contains
         (asked.now.old_name.now ∷ asked.now.new_name.now ∷ []) name.now) }

@@ -2,6 +2,7 @@
 #![tactic(auto)]
 
 mod compared_jobs;
+mod drawn_jobs;
 mod golden_jobs;
 mod inputs;
 mod lists;

@@ -8,7 +8,7 @@ use Rattle.pcl_lexer.proofs.Reading.Readings.{one_reading}
 use Rattle.device_profile.specs.declared.panel.Panel.{Panel}
 use Rattle.device_profile.specs.Printer.{Printer}
 use Rattle.page_machine.specs.Job.{ItemRun, plain_run}
-use Rattle.sinks.specs.Counts.{capped, no_counts}
+use Rattle.sinks.specs.Counts.{no_counts}
 use Rattle.sinks.specs.declared.counts.Counts.{Counts}
 use Rattle.streams.specs.Pieces.{ByReads}
 use Rattle.streams.specs.Source.{SourceState}
@@ -21,14 +21,15 @@ use Rattle.comparison.specs.Running.{HasEnded, HasRun, IsFailing, RunState, Runs
 use Rattle.comparison.proofs.Comparisons.{by_reads}
 use Rattle.comparison.proofs.Ends.{ends_by, fails_by, whole_job}
 use Rattle.comparison.proofs.Following.{none_still}
+use Rattle.page_comparison.specs.declared.differences.Most.{Most}
 use Rattle.page_comparison.specs.declared.differences.Nearness.{Nearness}
 use Rattle.page_comparison.specs.declared.differences.PagesError.{PagesError}
 use Rattle.page_comparison.specs.declared.differences.PagesError.TheVariants.{Unread as UnreadJob, TooManyMarks, Memory}
 use Rattle.page_comparison.specs.declared.setting.Setting.{Setting}
 use Rattle.page_comparison.specs.Comparison.{IsPageComparison, NewFailing, OldFailing, ToldPages, failing_or, marks_compared}
 use Rattle.page_comparison.specs.Comparison.{ends_compared, page_differences, pages_compared, pairs_of, same_or, setting_of}
-use Rattle.page_comparison.specs.Kept.{Kept, kept_all, kept_told, none_kept, page_kept, page_over, pages_kept}
-use Rattle.page_comparison.specs.Pages.{MadePage, no_page, page_counted, paired, pages_counted, pages_of}
+use Rattle.page_comparison.specs.Kept.{Kept, kept_all, kept_told, none_kept, page_differs, page_kept, page_over, pages_kept}
+use Rattle.page_comparison.specs.Pages.{MadePage, no_page, page_counted, pair_at, paired, pages_counted, pages_of}
 use Rattle.page_comparison.specs.Reading.{AreCompared, IsErrorOfPages, IsOwnError, IsRead, IsRight, MayCome, NewFailsRight}
 use Rattle.page_comparison.specs.Reading.{PagesGo, first_page, is_over, is_unread, is_unread_error, later_pages}
 use Rattle.page_comparison.proofs.Keeping.{told_of_kept}
@@ -48,8 +49,8 @@ missing_kept nearness page old_end new_end kept idle =
     ap (λ l. l ++ ends_compared page (no_page old_end) (no_page new_end))
     (missing_none nearness.any_order (setting_of nearness page (no_page old_end) (no_page new_end))) in
     sym
-    (ap (λ l. page_over (kept_all l kept)) none
-    ∙ ap (λ (d : Bool). if d then record kept { differs = false; pages = capped (kept.pages + 1) } else kept) idle)
+    (ap (λ l. page_over (pair_at page (no_page old_end) (no_page new_end)) (kept_all l kept)) none
+    ∙ ap (λ (d : Bool). if d then page_differs (pair_at page (no_page old_end) (no_page new_end)) kept else kept) idle)
 
 module _ (old_end new_end : ℕ) where
   paired_rest : (old : List MadePage) → map (λ page. (page, no_page new_end)) old ≡ paired old_end new_end old []
@@ -83,7 +84,7 @@ may_before old new made rest end stays may over =
     let none = may (ap is_over same.1 ∙ over) in
     ((λ i. same.0 i ++ none.0 i), none.1 ∙ ap (λ (f : Following). f.run.place) same.1)
 
-module _ (nearness : Nearness) (most : ℕ) (printer : Printer) (panel : Panel)
+module _ (nearness : Nearness) (most : Most) (printer : Printer) (panel : Panel)
     (old_first old_now old_now' new_first new_now new_now' : SourceState) (old old' new new' : Following) (page : ℕ)
     (kept kept' : Kept) (counts counts' : Counts) (one other : MadePage)
     (go : PagesGo nearness most printer panel old_first old_now new_first new_now old new page kept counts)
@@ -139,7 +140,7 @@ module _ (nearness : Nearness) (most : ℕ) (printer : Printer) (panel : Panel)
   }
 
 -- nothing is read
-pub go_none : (nearness : Nearness) (most : ℕ) (printer : Printer) (panel : Panel) (old_first old_now new_first new_now : SourceState)
+pub go_none : (nearness : Nearness) (most : Most) (printer : Printer) (panel : Panel) (old_first old_now new_first new_now : SourceState)
     (old new : Following) (kept : Kept) (counts : Counts) → kept ≡ none_kept most → counts ≡ no_counts →
     HasFollowed printer panel old_first old_now [] old → HasFollowed printer panel new_first new_now [] new →
     PagesGo nearness most printer panel old_first old_now new_first new_now old new 1 kept counts
@@ -156,7 +157,7 @@ go_none nearness most printer panel old_first old_now new_first new_now old new 
 
 -- ---- what comes of it
 
-module _ (nearness : Nearness) (most number : ℕ) (printer : Printer) (panel : Panel) where
+module _ (nearness : Nearness) (most : Most) (number : ℕ) (printer : Printer) (panel : Panel) where
   abbrev items_from : Reading → List ItemRun
   items_from reading = (plain_run printer panel reading).items
 
@@ -285,7 +286,7 @@ module _ (nearness : Nearness) (most number : ℕ) (printer : Printer) (panel : 
         (both_end of_old.bytes of_new.bytes old_made new_made old.place new.place told done.1 ended is)))
 
 -- both jobs are over: what was kept is what comes of them
-pub pages_over : (nearness : Nearness) (most number : ℕ) (printer : Printer) (panel : Panel)
+pub pages_over : (nearness : Nearness) (most : Most) (number : ℕ) (printer : Printer) (panel : Panel)
     (old_first old_now new_first new_now : SourceState) (old new : Following) (page : ℕ) (kept : Kept) (counts : Counts) →
     PagesGo nearness most printer panel old_first old_now new_first new_now old new page kept counts →
     old.run.number ≡ number → new.run.number ≡ number → is_over old ≡ true → is_over new ≡ true →

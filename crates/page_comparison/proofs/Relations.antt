@@ -22,13 +22,14 @@ use Rattle.comparison.specs.Comparison.{Made, all_made, at_start, compared, end_
 use Rattle.comparison.specs.Comparison as flat
 use Rattle.comparison.proofs.Sameness.{compared_same, event_same, same_event}
 use Rattle.comparison.proofs.SoFar.{compared_behind}
+use Rattle.page_comparison.specs.declared.differences.Most.{Most}
 use Rattle.page_comparison.specs.declared.differences.Nearness.{Nearness}
 use Rattle.page_comparison.specs.declared.differences.PageChange.TheVariants.{PageEnds}
 use Rattle.page_comparison.specs.declared.differences.PageDifference.{PageDifference}
 use Rattle.page_comparison.specs.declared.setting.Setting.{Setting}
 use Rattle.page_comparison.specs.AnyOrder.{stand_at}
-use Rattle.page_comparison.specs.Comparison.{SamePages, ToldPages, are_same_ends, by_page, comparison_from, differs, ends_compared}
-use Rattle.page_comparison.specs.Comparison.{NewFailing, OldFailing, OtherPages, failing_or, listing_of, marks_compared}
+use Rattle.page_comparison.specs.Comparison.{SamePages, ToldPages, are_same_ends, by_page, comparison_from, differing_pairs, differs}
+use Rattle.page_comparison.specs.Comparison.{NewFailing, OldFailing, OtherPages, ends_compared, failing_or, listing_of, marks_compared}
 use Rattle.page_comparison.specs.Comparison.{pages_compared, pairs_of, setting_of}
 use Rattle.page_comparison.specs.Laws.{AreSame, IsExact, IsSameAsItself, NeedsNoOrder, near_by}
 use Rattle.page_comparison.specs.Marks.{distance_of}
@@ -62,7 +63,7 @@ none_count (page ∷ pages) h =
     count_cons page pages ∙ ap (λ (p : List PageDifference). cond (differs p) 1 0 + count_by differs pages) h.0 in
     let rest = none_count pages h.1 in omega (arith, counted, rest)
 
-module _ (nearness : Nearness) (most : ℕ) (pairs : List (MadePage × MadePage)) where
+module _ (nearness : Nearness) (most : Most) (pairs : List (MadePage × MadePage)) where
   abbrev counted : ℕ
   counted = capped (count_by differs (by_page nearness 1 pairs))
 
@@ -70,7 +71,8 @@ module _ (nearness : Nearness) (most : ℕ) (pairs : List (MadePage × MadePage)
   same_none counts e = by_test (counted == 0) refl e
     where
       by_test : (t : Bool) → (counted == 0) ≡ t →
-          (if t then SamePages (pages_counted pairs no_counts) else OtherPages (listing_of most (by_page nearness 1 pairs)))
+          (if t then SamePages (pages_counted pairs no_counts)
+          else OtherPages (listing_of most (by_page nearness 1 pairs) (differing_pairs nearness 1 pairs)))
           ≡ SamePages counts → AllEmpty (by_page nearness 1 pairs)
       by_test true is h =
           let none : counted ≡ 0 = eqb-true counted 0 is in
@@ -83,7 +85,8 @@ module _ (nearness : Nearness) (most : ℕ) (pairs : List (MadePage × MadePage)
       let none_counted = none_count (by_page nearness 1 pairs) h in
       let none : counted ≡ 0 = omega (arith, none_counted) in
       ap
-      (λ (t : Bool). if t then SamePages (pages_counted pairs no_counts) else OtherPages (listing_of most (by_page nearness 1 pairs)))
+      (λ (t : Bool). if t then SamePages (pages_counted pairs no_counts)
+      else OtherPages (listing_of most (by_page nearness 1 pairs) (differing_pairs nearness 1 pairs)))
       (eq-eqb counted 0 none)
 
 -- ---- one page
@@ -271,7 +274,7 @@ passes_flat : (fails : Failure → Comparison) (failure : Option Failure) (other
 passes_flat fails None otherwise counts never h = (refl, h)
 passes_flat fails (Some failure) otherwise counts never h = absurd (never failure h)
 
-module _ (most number : ℕ) (printer : Printer) (panel : Panel) (old new : Reading) where
+module _ (most : Most) (number : ℕ) (printer : Printer) (panel : Panel) (old new : Reading) where
   abbrev old_made : List Made
   old_made = all_made (plain_run printer panel old).items
 
@@ -353,7 +356,7 @@ module _ (most number : ℕ) (printer : Printer) (panel : Panel) (old new : Read
       let told = told_same (near_by false within) same in
       same_told (near_by true within) told.0 told.1 (near_none (near_by true within) 1 pairs (none_near within 1 pairs told.2))
 
-pub is_same_as_itself : (near : Nearness) (most number : ℕ) (printer : Printer) (panel : Panel) (job : Reading) →
+pub is_same_as_itself : (near : Nearness) (most : Most) (number : ℕ) (printer : Printer) (panel : Panel) (job : Reading) →
     IsSameAsItself near most number printer panel job
 is_same_as_itself near most number printer panel job counts e =
     let told = flat_told most number printer panel job job counts e in

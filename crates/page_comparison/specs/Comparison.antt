@@ -1,6 +1,6 @@
 -- What comes of two jobs, OLD and NEW, on a printer from a panel, page by page: they print the same, or all that
 -- differs, or why one fails.
-use Rattle.std.specs.Prelude.{◌≡◌, ℕ, ◌+◌, ◌==◌, nat_lt, Bool, true, false, List, [], ◌∷◌, ◌++◌, length, take}
+use Rattle.std.specs.Prelude.{◌≡◌, ℕ, ◌+◌, ◌-◌, ◌^◌, ◌==◌, nat_lt, Bool, true, false, List, [], ◌∷◌, ◌++◌, length, take}
 use Rattle.std.specs.Prelude.{count_by, flat_map, Option, None, Some, if◌then◌else◌}
 use Rattle.pcl_lexer.specs.Reading.{Reading, IsReading}
 use Rattle.device_profile.specs.declared.panel.Panel.{Panel}
@@ -12,6 +12,7 @@ use Rattle.sinks.specs.Counts.{capped, no_counts}
 use Rattle.sinks.specs.declared.counts.Counts.{Counts}
 use Rattle.verdict.specs.declared.failure.Failure.{Failure}
 use Rattle.comparison.specs.Comparison.{all_made, end_of, failure_on}
+use Rattle.page_comparison.specs.declared.differences.Most.{Most}
 use Rattle.page_comparison.specs.declared.differences.Differences.{Differences}
 use Rattle.page_comparison.specs.declared.differences.Nearness.{Nearness}
 use Rattle.page_comparison.specs.declared.differences.PageChange.TheVariants.{PageEnds}
@@ -22,7 +23,8 @@ use Rattle.page_comparison.specs.declared.setting.Setting.{Setting}
 use Rattle.page_comparison.specs.AnyOrder.{all_in_any_order, stand_at}
 use Rattle.page_comparison.specs.InOrder.{all_in_order}
 use Rattle.page_comparison.specs.Marks.{distance_of}
-use Rattle.page_comparison.specs.Pages.{MadeMark, MadePage, paired, pages_counted, pages_of}
+use Rattle.page_comparison.specs.Pages.{MadeMark, MadePage, MadePair, made_pair, pair_at, paired, pages_counted}
+use Rattle.page_comparison.specs.Pages.{pages_of}
 use Rattle.page_comparison.specs.Told.{difference_at}
 
 -- ---- one page
@@ -64,16 +66,31 @@ abbrev pub differs : List PageDifference → Bool
 differs [] = false
 differs (difference ∷ more) = true
 
--- what is told of the differences: the first ones, whether there are more, and how many pages differ
+-- the pages that differ, from the page of this number on
+abbrev pub differing_pairs : Nearness → ℕ → List (MadePage × MadePage) → List MadePair
+differing_pairs nearness page [] = []
+differing_pairs nearness page (pair ∷ pairs) =
+    if differs (page_differences nearness page pair.0 pair.1)
+    then pair_at page pair.0 pair.1 ∷ differing_pairs nearness (page + 1) pairs
+    else differing_pairs nearness (page + 1) pairs
+
+-- what is told of the differences: the first ones, whether there are more, how many pages differ, and the first of
+-- these pages
 pub record ToldDifferences : Type 0 where
   pub listed : List PageDifference
   pub more : Bool
   pub pages : ℕ
+  pub pairs : List MadePair
 
-abbrev pub listing_of : (most : ℕ) → List (List PageDifference) → ToldDifferences
-listing_of most pages =
+abbrev pub listing_of : Most → List (List PageDifference) → List MadePair → ToldDifferences
+listing_of most pages pairs =
     let all = flat_map (λ page. page) pages in
-    record { listed = take most all; more = nat_lt most (length all); pages = capped (count_by differs pages) }
+    record {
+      listed = take most.differences all;
+      more = nat_lt most.differences (length all);
+      pages = capped (count_by differs pages);
+      pairs = take most.pages pairs;
+    }
 
 -- what comes of two jobs, without where it lies in memory
 pub data ToldPages : Type 0 where
@@ -83,7 +100,12 @@ pub data ToldPages : Type 0 where
   NewFailing : Failure → ToldPages
 
 abbrev pub told_differences : {A : Type 0} → Differences A → ToldDifferences
-told_differences found = record { listed = found.listed.items; more = found.more; pages = found.pages }
+told_differences found = record {
+  listed = found.listed.items;
+  more = found.more;
+  pages = found.pages;
+  pairs = map made_pair found.pairs.items;
+}
 
 abbrev pub told_pages : {A : Type 0} → PageComparison A → ToldPages
 told_pages (comparisons.Same counts) = SamePages counts
@@ -94,10 +116,15 @@ told_pages (comparisons.NewFails failure) = NewFailing failure
 abbrev pub same_or : Counts → ToldDifferences → ToldPages
 same_or counts found = if found.pages == 0 then SamePages counts else OtherPages found
 
--- of the pages of both jobs, the first most differences
-abbrev pub pages_compared : Nearness → (most : ℕ) → List (MadePage × MadePage) → ToldPages
+-- of the pages of both jobs, so much at most
+abbrev pub pages_compared : Nearness → Most → List (MadePage × MadePage) → ToldPages
 pages_compared nearness most pairs =
-    same_or (pages_counted pairs no_counts) (listing_of most (by_page nearness 1 pairs))
+    same_or (pages_counted pairs no_counts)
+    (listing_of most (by_page nearness 1 pairs) (differing_pairs nearness 1 pairs))
+
+-- what differs of a page that is kept: no page has so many differences
+abbrev pub pair_differences : Nearness → MadePair → List PageDifference
+pair_differences nearness pair = take (2 ^ 64 - 1) (page_differences nearness pair.number pair.old pair.new)
 
 -- ---- all of it
 
@@ -112,7 +139,8 @@ pairs_of old new old_items new_items =
     (pages_of (end_of new) (all_made new_items))
 
 -- a failure of OLD comes first, and then one of NEW
-abbrev pub comparison_of : Nearness → (most number : ℕ) → (old new : Reading) → (old_items new_items : List ItemRun) →
+abbrev pub comparison_of : Nearness → Most → (number : ℕ) → (old new : Reading) →
+    (old_items new_items : List ItemRun) →
     ToldPages
 comparison_of nearness most number old new old_items new_items =
     failing_or OldFailing (failure_on number old_items old)
@@ -120,12 +148,13 @@ comparison_of nearness most number old new old_items new_items =
     (pages_compared nearness most (pairs_of old new old_items new_items)))
 
 -- of the plain runs on the printer of this number, from this panel
-abbrev pub comparison_from : Nearness → (most number : ℕ) → Printer → Panel → (old new : Reading) → ToldPages
+abbrev pub comparison_from : Nearness → Most → (number : ℕ) → Printer → Panel → (old new : Reading) → ToldPages
 comparison_from nearness most number printer panel old new =
     comparison_of nearness most number old new (plain_run printer panel old).items (plain_run printer panel new).items
 
 -- it is what the definitions say of the one reading of each job
-abbrev pub IsPageComparison : Nearness → (most number : ℕ) → Printer → Panel → (old new : List ℕ) → ToldPages → Type 0
+abbrev pub IsPageComparison : Nearness → Most → (number : ℕ) → Printer → Panel → (old new : List ℕ) → ToldPages →
+    Type 0
 IsPageComparison nearness most number printer panel old new told =
     (old_reading : Reading) × IsReading old old_reading × (new_reading : Reading) × IsReading new new_reading
     × (told ≡ comparison_from nearness most number printer panel old_reading new_reading)

@@ -8,6 +8,7 @@ use Rattle.sinks.specs.declared.counts.Counts.{Counts}
 use Rattle.sinks.specs.Owned.{shape_of_owned}
 use Rattle.comparison.specs.Comparison.{Made}
 use Rattle.page_comparison.specs.declared.page.Page.{Page}
+use Rattle.page_comparison.specs.declared.page.PagePair.{PagePair}
 use Rattle.page_comparison.specs.declared.page.PlacedMark.{PlacedMark}
 
 -- a mark, and where the item stands that made it
@@ -32,6 +33,18 @@ made_marks kept = map made_mark kept
 
 abbrev pub made_page : {A : Type 0} → Page A → MadePage
 made_page page = record { marks = made_marks page.marks.items; end = page.end; place = page.place }
+
+-- a page of two jobs by its number
+pub record MadePair : Type 0 where
+  pub number : ℕ
+  pub old : MadePage
+  pub new : MadePage
+
+abbrev pub pair_at : ℕ → MadePage → MadePage → MadePair
+pair_at number old new = record { number = number; old = old; new = new }
+
+abbrev pub made_pair : {A : Type 0} → PagePair A → MadePair
+made_pair pair = pair_at pair.number (made_page pair.old) (made_page pair.new)
 
 -- ---- the pages of a job
 

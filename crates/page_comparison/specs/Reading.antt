@@ -14,6 +14,7 @@ use Rattle.comparison.specs.declared.compare.Which.{Which}
 use Rattle.comparison.specs.Comparing.{Following, HasFollowed, is_unread_by, next_of, still_made}
 use Rattle.comparison.specs.Comparison.{Made}
 use Rattle.comparison.specs.Running.{IsErrorOfJob, failure_of, is_open}
+use Rattle.page_comparison.specs.declared.differences.Most.{Most}
 use Rattle.page_comparison.specs.declared.differences.Nearness.{Nearness}
 use Rattle.page_comparison.specs.declared.differences.PagesError.{PagesError}
 use Rattle.page_comparison.specs.declared.differences.PagesError.TheVariants.{Unread as UnreadJob, TooManyMarks, Memory}
@@ -117,14 +118,14 @@ pub record Collects (printer : Printer) (panel : Panel) (first now : SourceState
 -- ---- the pages so far
 
 -- of the pages of two jobs those before this number are compared: this was kept of them, and so many were counted
-abbrev pub AreCompared : Nearness → (most : ℕ) → (all rest : List (MadePage × MadePage)) → (page : ℕ) → Kept → Counts →
+abbrev pub AreCompared : Nearness → Most → (all rest : List (MadePage × MadePage)) → (page : ℕ) → Kept → Counts →
     Type 0
 AreCompared nearness most all rest page kept counts =
     (pages_kept nearness 1 all (none_kept most) ≡ pages_kept nearness page rest kept)
     × (pages_counted all no_counts ≡ pages_counted rest counts)
 
 -- whatever comes behind the pages of both jobs that were read
-pub record PagesGo (nearness : Nearness) (most : ℕ) (printer : Printer) (panel : Panel)
+pub record PagesGo (nearness : Nearness) (most : Most) (printer : Printer) (panel : Panel)
     (old_first old_now new_first new_now : SourceState) (old new : Following) (page : ℕ) (kept : Kept) (counts : Counts)
     : Type 0 where
   pub old_taken : List Made
@@ -138,7 +139,7 @@ pub record PagesGo (nearness : Nearness) (most : ℕ) (printer : Printer) (panel
       (paired old_end new_end (pages_of old_end old_rest) (pages_of new_end new_rest)) page kept counts
 
 -- so it is of two jobs of which nothing was read before
-abbrev pub GoesOn : Nearness → (most : ℕ) → (old_now old_now' new_now new_now' : SourceState) →
+abbrev pub GoesOn : Nearness → Most → (old_now old_now' new_now new_now' : SourceState) →
     (old old' new new' : Following) → (page : ℕ) → Kept → Counts → Type 0
 GoesOn nearness most old_now old_now' new_now new_now' old old' new new' page kept counts =
     (printer : Printer) (panel : Panel) (old_first new_first : SourceState) →
@@ -148,7 +149,7 @@ GoesOn nearness most old_now old_now' new_now new_now' old old' new new' page ke
 -- ---- all of it
 
 -- what is right for every two jobs that may be by what was read of them
-abbrev pub IsRight : Nearness → (most number : ℕ) → Printer → Panel →
+abbrev pub IsRight : Nearness → Most → (number : ℕ) → Printer → Panel →
     (old_first old_now new_first new_now : SourceState) → ToldPages → Type 0
 IsRight nearness most number printer panel old_first old_now new_first new_now told =
     ByReads old_first old_now (λ old. ByReads new_first new_now (λ new.
@@ -158,7 +159,7 @@ IsRight nearness most number printer panel old_first old_now new_first new_now t
 -- whatever the relation is.
 abbrev pub NewFailsRight : (old_now old_now' : SourceState) → (old : Following) → Failure → ToldPages → Type 0
 NewFailsRight old_now old_now' old failure told =
-    (nearness : Nearness) (most number : ℕ) (printer : Printer) (panel : Panel)
+    (nearness : Nearness) (most : Most) (number : ℕ) (printer : Printer) (panel : Panel)
     (old_first new_first new_now : SourceState) (new : Following) (old_taken new_taken : List Made) →
     HasFollowed printer panel old_first old_now old_taken old →
     HasFollowed printer panel new_first new_now new_taken new →
@@ -166,7 +167,7 @@ NewFailsRight old_now old_now' old failure told =
     IsRight nearness most number printer panel old_first old_now' new_first new_now told
 
 -- of two jobs of which nothing was read before
-abbrev pub PagesCompare : Nearness → (most : ℕ) → (old_now old_now' new_now new_now' : SourceState) →
+abbrev pub PagesCompare : Nearness → Most → (old_now old_now' new_now new_now' : SourceState) →
     (old new : Following) → ToldPages → Type 0
 PagesCompare nearness most old_now old_now' new_now new_now' old new told =
     (printer : Printer) (panel : Panel) (number : ℕ) (old_first new_first : SourceState) →

@@ -12,10 +12,12 @@ ghost use Rattle.page_comparison.specs.Comparison.{
   are_same_ends,
   ends_compared,
   marks_compared,
+  page_differences,
+  pair_differences,
   told_pages,
 };
 ghost use Rattle.page_comparison.specs.Kept.{kept_all, page_kept};
-ghost use Rattle.page_comparison.specs.Pages.{made_page, page_counted, shapes_of};
+ghost use Rattle.page_comparison.specs.Pages.{made_page, made_pair, page_counted, shapes_of};
 ghost use Rattle.page_comparison.specs.Reading.{
   IsErrorOfPages,
   IsOwnError,
@@ -27,10 +29,12 @@ ghost use Rattle.page_comparison.specs.Reading.{
 ghost use Rattle.streams.specs.Pieces.{ByReads};
 
 use crate::any_order::tell_in_any_order;
-use crate::differences::{Nearness, PageChange, PageComparison, PageOf, PagesError};
+use crate::differences::{
+    MOST_MARKS, Most, Nearness, PageChange, PageComparison, PageDifference, PageOf, PagesError,
+};
 use crate::in_order::tell_in_order;
 use crate::listing::Listing;
-use crate::page::Page;
+use crate::page::{Page, PagePair};
 use crate::reading::{is_over, read_page};
 use crate::setting::Setting;
 use crate::standing::Standing;
@@ -44,11 +48,18 @@ use std::alloc::{AllocError, Allocator};
 use streams::{Error, Source};
 use verdict::Failure;
 
+/// All differences of a page, which is kept already.
+const ALL: Most = Most {
+    differences: u64::MAX,
+    pages: 0,
+};
+
 /// All that differs of two jobs on the printer of this number, from the first panel that its
-/// profile lists: whether they print the same by a relation, or the first differences, so many at
-/// most. A failure of the job OLD comes before one of the job NEW, and both before a difference.
+/// profile lists: whether they print the same by a relation, or the first differences and the first
+/// pages that differ, so many at most. A failure of the job OLD comes before one of the job NEW,
+/// and both before a difference.
 ///
-/// Both are read page by page: a page of each is held, and the differences.
+/// Both are read page by page: a page of each is held, the differences, and pages that are kept.
 pub fn compare_pages<S: Source, T: Source, A: Allocator + Copy, P: Allocator>(
     alloc: A,
     old_job: &mut S,
@@ -56,7 +67,7 @@ pub fn compare_pages<S: Source, T: Source, A: Allocator + Copy, P: Allocator>(
     profile: &Profile<P>,
     number: u64,
     nearness: Nearness,
-    most: u64,
+    most: Most,
 ) -> Result<PageComparison<A>, PagesError>
     requires old_job { IsFalse (S.state old_job.old).failed }
     requires new_job { IsFalse (T.state new_job.old).failed }
@@ -92,7 +103,7 @@ fn compare_all<S: Source, T: Source, A: Allocator + Copy, P: Allocator>(
     new_job: &mut T,
     second: &mut Follower<'_, A, P>,
     nearness: Nearness,
-    most: u64,
+    most: Most,
 ) -> Result<PageComparison<A>, PagesError>
     requires old_job { IsFalse (S.state old_job.old).failed }
     requires new_job { IsFalse (T.state new_job.old).failed }
@@ -119,13 +130,38 @@ fn compare_all<S: Source, T: Source, A: Allocator + Copy, P: Allocator>(
         }
         let one = read_page(alloc, page_of(Which::Old, page), old_job, first)?;
         let other = read_page(alloc, page_of(Which::New, page), new_job, second)?;
-        compare_page(alloc, page, &one, &other, nearness, &mut listing)?;
         counts = count_page(counts, &one);
+        let pair = PagePair {
+            number: page,
+            old: one,
+            new: other,
+        };
+        compare_page(alloc, nearness, pair, &mut listing)?;
     }
     Err(PagesError::Unread(Unread {
         which: Which::Old,
         error: Error::Turns,
     }))
+}
+
+/// What differs of a page that is kept.
+pub fn differences_of<A: Allocator + Copy>(
+    alloc: A,
+    nearness: Nearness,
+    pair: &PagePair<A>,
+) -> Result<Vec<PageDifference, A>, PagesError>
+    ensures { IfOk result (λ differences.
+        differences.items ≡ pair_differences nearness (made_pair pair.now)) }
+{
+    if pair.old.marks.len() > MOST_MARKS {
+        return Err(PagesError::TooManyMarks(page_of(Which::Old, pair.number)));
+    }
+    if pair.new.marks.len() > MOST_MARKS {
+        return Err(PagesError::TooManyMarks(page_of(Which::New, pair.number)));
+    }
+    let mut listing = Listing::new(alloc, ALL);
+    tell_page(alloc, nearness, pair, &mut listing)?;
+    Ok(listing.into_listed())
 }
 
 fn page_of(which: Which, page: u64) -> PageOf
@@ -187,29 +223,44 @@ fn last_failure<S: Source, A: Allocator + Copy, P: Allocator>(
     }
 }
 
-/// Tells the differences of a page of this number, of which each job has one.
+/// Tells the differences of a page of both jobs, and keeps it, where it differs and there is room.
 fn compare_page<A: Allocator + Copy>(
     alloc: A,
-    page: u64,
-    one: &Page<A>,
-    other: &Page<A>,
     nearness: Nearness,
+    pair: PagePair<A>,
     listing: &mut Listing<A>,
 ) -> Result<(), AllocError>
-    requires old { length (made_page one.now).marks ≤ 2 ^ 21 }
-    requires new { length (made_page other.now).marks ≤ 2 ^ 21 }
-    ensures { OnOk result (listing.new
-        ≡ page_kept nearness page (made_page one.now) (made_page other.now) listing.old) }
+    requires old { length (made_page pair.old).marks ≤ 2 ^ 21 }
+    requires new { length (made_page pair.new).marks ≤ 2 ^ 21 }
+    ensures { OnOk result (listing.new ≡ page_kept nearness pair.number
+        (made_page pair.old) (made_page pair.new) listing.old) }
 {
+    tell_page(alloc, nearness, &pair, listing)?;
+    listing.end_page(pair)?;
+    Ok(())
+}
+
+/// Tells the differences of a page of both jobs.
+fn tell_page<A: Allocator + Copy>(
+    alloc: A,
+    nearness: Nearness,
+    pair: &PagePair<A>,
+    listing: &mut Listing<A>,
+) -> Result<(), AllocError>
+    requires old { length (made_page pair.now.old).marks ≤ 2 ^ 21 }
+    requires new { length (made_page pair.now.new).marks ≤ 2 ^ 21 }
+    ensures { OnOk result (listing.new ≡ kept_all (page_differences nearness pair.now.number
+        (made_page pair.now.old) (made_page pair.now.new)) listing.old) }
+{
+    let (one, other) = (&pair.old, &pair.new);
     let setting = Setting {
-        page,
+        page: pair.number,
         old_end: one.place,
         new_end: other.place,
         within: nearness.distance(),
     };
     tell_marks(alloc, nearness.any_order, &setting, one, other, listing)?;
-    tell_ends(page, one, other, listing)?;
-    listing.end_page();
+    tell_ends(pair.number, one, other, listing)?;
     Ok(())
 }
 

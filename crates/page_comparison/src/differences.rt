@@ -2,6 +2,7 @@
 ghost use Rattle.std.specs.Prelude.{◌≡◌};
 ghost use Rattle.page_comparison.specs.declared.differences.PagesError.TheVariants.{Memory};
 
+use crate::page::PagePair;
 use comparison::{Unread, Which};
 use sinks::Counts;
 use std::alloc::{AllocError, Allocator};
@@ -17,6 +18,15 @@ pub struct Nearness {
     pub any_order: bool,
     /// How far each edge of a mark may lie off, in 7200ths of an inch; 0: not at all.
     pub within: u64,
+}
+
+/// How much is kept of what differs.
+#[derive(Clone, Copy, Debug, PartialEq, Eq)]
+pub struct Most {
+    /// So many differences are listed.
+    pub differences: u64,
+    /// So many pages that differ are held with all their marks, to be drawn.
+    pub pages: u64,
 }
 
 /// What differs.
@@ -64,6 +74,8 @@ pub struct Differences<A: Allocator> {
     pub more: bool,
     /// How many pages differ.
     pub pages: u64,
+    /// The first of these pages.
+    pub pairs: Vec<PagePair<A>, A>,
 }
 
 /// What comes of two jobs, OLD and NEW, on a printer.

@@ -20,9 +20,10 @@ mod setting;
 mod standing;
 mod turn;
 
-pub use compare::compare_pages;
+pub use compare::{compare_pages, differences_of};
 pub use differences::{
-    Differences, MOST_MARKS, Nearness, PageChange, PageComparison, PageDifference, PageOf,
+    Differences, MOST_MARKS, Most, Nearness, PageChange, PageComparison, PageDifference, PageOf,
     PagesError,
 };
 pub use laws::{in_order_is_exact, same_as_itself, same_in_any_order};
+pub use page::{Page, PagePair, PlacedMark};

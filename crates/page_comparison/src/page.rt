@@ -13,19 +13,27 @@ use std::alloc::{AllocError, Allocator};
 
 /// A mark, and where the item stands that made it.
 #[derive(Drop)]
-pub(crate) struct PlacedMark<A: Allocator> {
-    pub(crate) place: Place,
-    pub(crate) mark: OwnedMark<A>,
+pub struct PlacedMark<A: Allocator> {
+    pub place: Place,
+    pub mark: OwnedMark<A>,
 }
 
 /// The marks of a page, and how it ends.
 #[derive(Drop)]
-pub(crate) struct Page<A: Allocator> {
-    pub(crate) marks: Vec<PlacedMark<A>, A>,
+pub struct Page<A: Allocator> {
+    pub marks: Vec<PlacedMark<A>, A>,
     /// The values with which it ends. None: the job is over before that.
-    pub(crate) end: Option<PageEnd>,
+    pub end: Option<PageEnd>,
     /// Where the item stands that ends it, or where the job ends.
-    pub(crate) place: Place,
+    pub place: Place,
+}
+
+/// A page of two jobs by its number, from 1.
+#[derive(Drop)]
+pub struct PagePair<A: Allocator> {
+    pub number: u64,
+    pub old: Page<A>,
+    pub new: Page<A>,
 }
 
 impl<A: Allocator + Copy> Page<A> {

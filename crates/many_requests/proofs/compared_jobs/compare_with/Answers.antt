@@ -7,10 +7,10 @@ use Rattle.many_requests.proofs.compared_jobs.compare_with.Goals as goal
 pub returns-in-Pair : goal.returns-in-Pair
 returns-in-Pair g c =
     subst
-    (λ (jobs : ComparedJobs). LeavesWith jobs c.args.words.now (map (λ word. word.now) c.args.printers.now) c.compare_on_files.result
-    c.args.used.now c.compare_on_files.new.used (g.O.Outlet.state c.args.stdout.now) (g.O.Outlet.state c.compare_on_files.new.stdout)
-    (g.E.Outlet.state c.args.stderr.now) (g.E.Outlet.state c.compare_on_files.new.stderr))
-    (sym c.in-Pair.is) c.compare_on_files.ensures
+    (λ (jobs : ComparedJobs). LeavesWith jobs c.args.words.now (map (λ word. word.now) c.args.printers.now) c.compare_pair.result
+    c.args.used.now c.compare_pair.new.used (g.O.Outlet.state c.args.stdout.now) (g.O.Outlet.state c.compare_pair.new.stdout)
+    (g.E.Outlet.state c.args.stderr.now) (g.E.Outlet.state c.compare_pair.new.stderr))
+    (sym c.in-Pair.is) c.compare_pair.ensures
 
 pub returns-in-Golden : goal.returns-in-Golden
 returns-in-Golden g c =

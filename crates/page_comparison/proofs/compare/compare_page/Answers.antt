@@ -1,24 +1,7 @@
-use Rattle.std.proofs.Common.{ℕ, ap, ◌∙◌}
-use Rattle.page_comparison.specs.declared.setting.Setting.{Setting}
-use Rattle.page_comparison.specs.Comparison.{ends_compared, marks_compared}
-use Rattle.page_comparison.specs.Kept.{kept_all, page_over}
-use Rattle.page_comparison.specs.Marks.{distance_of}
-use Rattle.page_comparison.specs.Pages.{made_page}
-use Rattle.page_comparison.proofs.Keeping.{kept_both}
+use Rattle.std.proofs.Common.{ap, ◌∙◌}
+use Rattle.page_comparison.specs.Kept.{page_over}
+use Rattle.page_comparison.specs.Pages.{made_pair}
 use Rattle.page_comparison.proofs.compare.compare_page.Goals as goal
 
 pub returns : goal.returns
-returns g c =
-    let one = made_page c.args.one.now in
-    let other = made_page c.args.other.now in
-    let any_order = c.args.nearness.any_order in
-    let setting : ℕ → Setting =
-    λ within. record { page = c.args.page; old_end = one.place; new_end = other.place; within = within } in
-    let marks =
-    c.in_ok-tell_marks.ensures
-    ∙ ap (λ n. kept_all (marks_compared any_order (setting n) one.marks other.marks) c.args.listing.now) c.distance.ensures in
-    c.end_page.ensures
-    ∙ ap page_over
-    (kept_both (marks_compared any_order (setting (distance_of c.args.nearness)) one.marks other.marks)
-    (ends_compared c.args.page one other) c.args.listing.now c.tell_marks.new.listing c.tell_ends.new.listing marks
-    c.in_ok-tell_ends.ensures)
+returns g c = c.in_ok-end_page.ensures ∙ ap (page_over (made_pair c.args.pair)) c.in_ok-tell_page.ensures
