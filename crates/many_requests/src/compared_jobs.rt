@@ -1,23 +1,21 @@
 //! Comparisons of jobs by request, on files.
 
-ghost use Rattle.std.specs.Prelude.{◌≢◌, [], ◌∷◌, Contains, IfNone, IfSome, IsFalse, map};
-ghost use Rattle.std.specs.Prelude.{option_map};
+ghost use Rattle.std.specs.Prelude.{◌≢◌, [], IsFalse, map, option_map};
 ghost use Rattle.compare_command.specs.Compare.{asked_for};
 ghost use Rattle.compare_command.specs.Golden.{golden_for};
 ghost use Rattle.many_requests.specs.Comparisons.{LeavesComparison, LeavesOnFiles, LeavesPair};
 ghost use Rattle.many_requests.specs.Comparisons.{LeavesWith};
-ghost use Rattle.many_requests.specs.Reads.{reads_input_twice};
 ghost use Rattle.many_requests.specs.GoldenJobs.{LeavesInFolder, golden_in};
-ghost use Rattle.named_inputs.specs.FileJobs.{is_input};
 ghost use Rattle.requests.specs.Comparisons.{NamesCompared};
 
 use crate::drawn_jobs::compare_drawn_on_files;
 use crate::golden_jobs::{compare_golden_jobs, golden_jobs};
 use crate::inputs::READ_FOR_EACH;
 use crate::many::{all_printers, read_fleets};
+use crate::read_again::gone_once_read;
 use compare_command::{CompareAsked, GoldenAsked, compare};
-use job_reports::{is_pipe, refuse_pipe};
-use named_inputs::{FileJobs, FileTexts, is_input};
+use job_reports::refuse_pipe;
+use named_inputs::{FileJobs, FileTexts};
 use requests::{CompareWords, ComparedJobs, Status};
 use std::io::{Input, Print};
 use std::rt::Files;
@@ -137,26 +135,6 @@ fn compare_on_files<'r, R: Files + Input + AllocGlobal, O: Outlet, E: Outlet>(
     texts.end(used);
     jobs.tell(used);
     status
-}
-
-/// The job that would be read again, and whose bytes are gone once they are read.
-pub(crate) fn gone_once_read<'n, R: Files>(rt: &R, asked: &CompareAsked<'_, 'n>) -> Option<&'n str>
-    ensures once { IfNone result (IsFalse (reads_input_twice (asked_for asked.now))) }
-    ensures named { IfSome result (λ name. Contains
-        (asked.now.old_name.now ∷ asked.now.new_name.now ∷ []) name.now) }
-{
-    let is_old_gone = is_input(asked.old_name.as_bytes());
-    let is_new_gone = is_input(asked.new_name.as_bytes());
-    if asked.printers.len() <= 1 {
-        return (is_old_gone && is_new_gone).then_some(asked.new_name);
-    }
-    if is_old_gone || is_pipe(rt, asked.old_name.as_bytes()) {
-        return Some(asked.old_name);
-    }
-    if is_new_gone || is_pipe(rt, asked.new_name.as_bytes()) {
-        return Some(asked.new_name);
-    }
-    None
 }
 
 /// Compares each of these jobs with the one of its name in a folder; else as it is asked.

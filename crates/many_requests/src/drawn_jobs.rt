@@ -5,7 +5,8 @@ ghost use Rattle.compare_command.specs.Compare.{asked_for};
 ghost use Rattle.many_requests.specs.DrawnJobs.{EndsDrawn, LeavesDrawnJobs, LeavesDrawnOnFiles};
 ghost use Rattle.many_requests.specs.DrawnJobs.{LeavesUnlessRead};
 
-use crate::compared_jobs::{READ_FOR_EACH, gone_once_read};
+use crate::inputs::READ_FOR_EACH;
+use crate::read_again::gone_once_read;
 use compare_command::{CompareAsked, Drawn, compare_drawn};
 use job_reports::refuse_pipe;
 use named_inputs::{FileJobs, FileTexts};

@@ -8,6 +8,7 @@ mod inputs;
 mod lists;
 mod many;
 mod names;
+mod read_again;
 
 pub use compared_jobs::compare_asked;
 pub use many::check_asked;
