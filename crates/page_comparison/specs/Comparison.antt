@@ -1,7 +1,7 @@
 -- What comes of two jobs, OLD and NEW, on a printer from a panel, page by page: they print the same, or all that
 -- differs, or why one fails.
 use Rattle.std.specs.Prelude.{◌≡◌, ℕ, ◌+◌, ◌-◌, ◌^◌, ◌==◌, nat_lt, Bool, true, false, List, [], ◌∷◌, ◌++◌, length, take}
-use Rattle.std.specs.Prelude.{count_by, flat_map, Option, None, Some, if◌then◌else◌}
+use Rattle.std.specs.Prelude.{count_by, flat_map, map, Option, None, Some, if◌then◌else◌}
 use Rattle.pcl_lexer.specs.Reading.{Reading, IsReading}
 use Rattle.device_profile.specs.declared.panel.Panel.{Panel}
 use Rattle.device_profile.specs.Printer.{Printer}
