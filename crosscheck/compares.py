@@ -47,8 +47,8 @@ class Asked(NamedTuple):
 
 STRICT = Manner(False, 0)
 USUAL = Asked((), STRICT, None)
-# 7200ths of an inch, as many as the length has, rounded down.
-TENTH, INCH = 28 * TICKS_PER_7200TH, 7200 * TICKS_PER_7200TH
+# In ticks.
+TENTH, INCH = 144_000_000, 7200 * TICKS_PER_7200TH
 OTHERS = (
     Asked(("--any-order",), Manner(True, 0), None),
     Asked(("--within", "0.1mm"), Manner(False, TENTH), None),

@@ -31,8 +31,7 @@ a mark comes to its place, does not matter.
   --any-order      the marks of a page may be made in any order: on paper the same, but that where
                    two overlap the other one may lie on top, which is told as covered otherwise
   --within LENGTH  marks are the same whose edges lie off by that at most, each for itself: on paper
-                   nothing is shifted, wider or higher by more. In mm or in, as 0.1mm and 0.004in,
-                   rounded down to 1/7200 inch
+                   nothing is shifted, wider or higher by more. In mm or in, as 0.1mm and 0.004in
 
 Output, one line:
   SAME pages=N marks=N

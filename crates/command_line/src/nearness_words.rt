@@ -52,7 +52,7 @@ pub(crate) fn nearness_of<'a>(found: &ArgMatches<'a>) -> Result<Nearness, Choice
     })
 }
 
-/// How far an edge may lie off, in 7200ths of an inch.
+/// How far an edge may lie off, in ticks.
 fn within_of<'a>(found: &ArgMatches<'a>) -> Result<u64, ChoiceFault<'a>> {
     let Some(word) = found.get_str("WITHIN") else {
         return Ok(0);
@@ -63,14 +63,13 @@ fn within_of<'a>(found: &ArgMatches<'a>) -> Result<u64, ChoiceFault<'a>> {
     }
 }
 
-/// The 7200ths of an inch that a length has, rounded down.
+/// The ticks of a length. Each ten-thousandth of a millimetre or of an inch is a whole number.
 fn length_of(word: &str) -> Option<u64> {
     if let Some(number) = word.strip_suffix("mm") {
-        // A millimetre has 36000/127 of them, and the number is one of ten-thousandths.
-        return Some(u64::from(ten_thousandths_of(number)?) * 18 / 635);
+        return Some(u64::from(ten_thousandths_of(number)?) * 144_000);
     }
     let number = word.strip_suffix("in")?;
-    Some(u64::from(ten_thousandths_of(number)?) * 18 / 25)
+    Some(u64::from(ten_thousandths_of(number)?) * 3_657_600)
 }
 
 /// How much is told of what differs.

@@ -32,7 +32,6 @@ use Rattle.page_comparison.specs.Comparison.{SamePages, ToldPages, are_same_ends
 use Rattle.page_comparison.specs.Comparison.{NewFailing, OldFailing, OtherPages, ends_compared, failing_or, listing_of, marks_compared}
 use Rattle.page_comparison.specs.Comparison.{pages_compared, pairs_of, setting_of}
 use Rattle.page_comparison.specs.Laws.{AreSame, IsExact, IsSameAsItself, NeedsNoOrder, near_by}
-use Rattle.page_comparison.specs.Marks.{distance_of}
 use Rattle.page_comparison.specs.Pages.{MadeMark, MadePage, by_event, last_page, no_page, paired, pages_counted, pages_from, pages_of}
 use Rattle.page_comparison.specs.Pages.{shapes_of}
 use Rattle.page_comparison.specs.Told.{difference_at}
@@ -118,7 +117,7 @@ abbrev AreNear : ℕ → List (MadePage × MadePage) → Type 0
 AreNear within pairs = AllByRecursion (IsNearPair within) pairs
 
 none_near : (within page : ℕ) (pairs : List (MadePage × MadePage)) → AllEmpty (by_page (near_by false within) page pairs) →
-    AreNear (distance_of (near_by false within)) pairs
+    AreNear within pairs
 none_near within page [] h = tt
 none_near within page (pair ∷ pairs) h =
     let setting : Setting = setting_of (near_by false within) page pair.0 pair.1 in
@@ -128,7 +127,7 @@ none_near within page (pair ∷ pairs) h =
       none_near within (page + 1) pairs h.1,
     )
 
-near_none : (near : Nearness) (page : ℕ) (pairs : List (MadePage × MadePage)) → AreNear (distance_of near) pairs →
+near_none : (near : Nearness) (page : ℕ) (pairs : List (MadePage × MadePage)) → AreNear near.within pairs →
     AllEmpty (by_page near page pairs)
 near_none near page [] h = tt
 near_none near page (pair ∷ pairs) h = (
@@ -348,7 +347,7 @@ module _ (most : Most) (number : ℕ) (printer : Printer) (panel : Panel) (old n
     λ same.
         let told = flat_told same.0 same.1 in
         same_told (near_by false 0) told.0 told.1
-        (near_none (near_by false 0) 1 pairs (events_near (distance_of (near_by false 0)) told.2)),
+        (near_none (near_by false 0) 1 pairs (events_near 0 told.2)),
   )
 
   pub needs_no_order : (within : ℕ) → NeedsNoOrder within most number printer panel old new
@@ -362,4 +361,4 @@ is_same_as_itself near most number printer panel job counts e =
     let told = flat_told most number printer panel job job counts e in
     same_told most number printer panel job job near told.0 told.1
     (near_none near 1 (pairs most number printer panel job job)
-    (events_near most number printer panel job job (distance_of near) refl))
+    (events_near most number printer panel job job near.within refl))

@@ -22,7 +22,6 @@ use Rattle.page_comparison.specs.declared.differences.PageDifference.{PageDiffer
 use Rattle.page_comparison.specs.declared.setting.Setting.{Setting}
 use Rattle.page_comparison.specs.AnyOrder.{all_in_any_order, stand_at}
 use Rattle.page_comparison.specs.InOrder.{all_in_order}
-use Rattle.page_comparison.specs.Marks.{distance_of}
 use Rattle.page_comparison.specs.Pages.{MadeMark, MadePage, MadePair, made_pair, pair_at, paired, pages_counted}
 use Rattle.page_comparison.specs.Pages.{pages_of}
 use Rattle.page_comparison.specs.Told.{difference_at}
@@ -32,7 +31,7 @@ use Rattle.page_comparison.specs.Told.{difference_at}
 -- of two pages of this number
 abbrev pub setting_of : Nearness → ℕ → MadePage → MadePage → Setting
 setting_of nearness page a b =
-    record { page = page; old_end = a.place; new_end = b.place; within = distance_of nearness }
+    record { page = page; old_end = a.place; new_end = b.place; within = nearness.within }
 
 abbrev pub marks_compared : Bool → Setting → List MadeMark → List MadeMark → List PageDifference
 marks_compared any_order setting old new =

@@ -1,22 +1,15 @@
 -- Which marks are near each other, what differs between two, and which overlap.
 use Rattle.std.specs.Prelude.{ℕ, pos, ◌*◌, ◌/◌, ◌+ℤ◌, ◌-ℤ◌, unsigned_abs, length, Bool, ◌&&◌, int_lt, int_le}
 use Rattle.std.specs.Prelude.{ℤ, if◌then◌else◌}
-use Rattle.tick_length.specs.Measures.{ticks_per_7200th}
 use Rattle.page_env.specs.declared.mark.Bounds.{Bounds}
 use Rattle.page_env.specs.declared.mark.PenLine.{PenLine}
 use Rattle.page_env.specs.Mark.{PixelRow, Shape, Rectangle, Character, Row, Line, pixel_of}
-use Rattle.sinks.specs.Counts.{capped}
 use Rattle.comparison.specs.Changes.{is_moved}
 use Rattle.comparison.specs.Nearness.{is_near_shape}
-use Rattle.page_comparison.specs.declared.differences.Nearness.{Nearness}
 use Rattle.page_comparison.specs.declared.differences.PageChange.{PageChange}
 use Rattle.page_comparison.specs.declared.differences.PageChange.TheVariants.{Moved, Changed}
 use Rattle.page_comparison.specs.declared.edges.Edges.{Edges}
 use Rattle.page_comparison.specs.Pages.{MadeMark}
-
--- how far the edges of near marks may lie from each other, in ticks; no two places lie 2^64 ticks from each other
-abbrev pub distance_of : Nearness → ℕ
-distance_of nearness = capped (nearness.within * ticks_per_7200th)
 
 -- the same but for their places and boxes, whose edges lie that near; within 0 they are the same
 abbrev pub is_near_mark : ℕ → MadeMark → MadeMark → Bool

@@ -257,7 +257,7 @@ fn tell_page<A: Allocator + Copy>(
         page: pair.number,
         old_end: one.place,
         new_end: other.place,
-        within: nearness.distance(),
+        within: nearness.within,
     };
     tell_marks(alloc, nearness.any_order, &setting, one, other, listing)?;
     tell_ends(pair.number, one, other, listing)?;

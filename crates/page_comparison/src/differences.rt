@@ -16,7 +16,7 @@ pub const MOST_MARKS: usize = 1 << 20;
 pub struct Nearness {
     /// Whether the marks of a page may be made in any order.
     pub any_order: bool,
-    /// How far each edge of a mark may lie off, in 7200ths of an inch; 0: not at all.
+    /// How far each edge of a mark may lie off, in ticks; 0: not at all.
     pub within: u64,
 }
 

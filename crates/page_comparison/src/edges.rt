@@ -12,10 +12,12 @@ ghost use Rattle.page_comparison.specs.Marks.{
   overlap,
 };
 ghost use Rattle.sinks.specs.Owned.{row_of_owned, shape_of_owned};
+ghost use Rattle.tick_length.specs.Length.{IsInRange};
 
 use page_env::{Bounds, PenLine, Resolution};
 use sinks::{OwnedMark, OwnedRow};
 use std::alloc::Allocator;
+use tick_length::Length;
 
 /// A box in page coordinates, in ticks.
 #[derive(Clone, Copy)]
@@ -42,11 +44,19 @@ fn edges_of_box(bounds: &Bounds) -> Edges
     ensures { result ≡ edges_of_box bounds.now }
 {
     Edges {
-        left: i128::from(bounds.left.ticks()),
-        top: i128::from(bounds.top.ticks()),
-        right: i128::from(bounds.right.ticks()),
-        bottom: i128::from(bounds.bottom.ticks()),
+        left: ticks_of(bounds.left),
+        top: ticks_of(bounds.top),
+        right: ticks_of(bounds.right),
+        bottom: ticks_of(bounds.bottom),
     }
+}
+
+/// A length in ticks, as edges count them.
+fn ticks_of(length: Length) -> i128
+    ensures value { result ≡ length }
+    ensures in_range { IsInRange length }
+{
+    i128::from(length.ticks())
 }
 
 /// All bytes of a row.
@@ -54,8 +64,8 @@ fn edges_of_row<A: Allocator>(row: &OwnedRow<A>) -> Edges
     ensures { result ≡ edges_of_row (row_of_owned row.now) }
 {
     let width = width_of(row.bytes.as_slice(), row.resolution);
-    let left = i128::from(row.x.ticks());
-    let top = i128::from(row.y.ticks());
+    let left = ticks_of(row.x);
+    let top = ticks_of(row.y);
     Edges {
         left,
         top,

@@ -7,23 +7,11 @@ ghost use Rattle.page_env.specs.Mark.{pixels_per_inch};
 ghost use Rattle.preflight.specs.Same.{are_same_bytes, is_same_fill};
 ghost use Rattle.comparison.specs.Nearness.{is_near, is_near_box, is_near_shape};
 ghost use Rattle.sinks.specs.Owned.{row_of_owned, shape_of_owned};
-ghost use Rattle.page_comparison.specs.Marks.{distance_of};
 
-use crate::differences::Nearness;
 use device_profile::is_same_request;
 use page_env::{Area, Bounds, Fill, Glyph, PenLine, Resolution};
 use sinks::{OwnedMark, OwnedRow};
 use std::alloc::Allocator;
-use tick_length::TICKS_PER_7200TH;
-
-impl Nearness {
-    /// How far the edges of near marks may lie from each other, in ticks.
-    pub(crate) fn distance(self) -> u64
-        ensures { result ≡ distance_of self }
-    {
-        self.within.saturating_mul(TICKS_PER_7200TH)
-    }
-}
 
 /// Whether two marks are the same but for their edges, which lie within a distance.
 pub(crate) fn is_near<A: Allocator>(one: &OwnedMark<A>, other: &OwnedMark<A>, within: u64) -> bool

@@ -2,8 +2,8 @@
 
 use pcl_items::Place;
 
-/// The number of the page, where it ends in both jobs, and how far near marks may lie from each
-/// other, in ticks.
+/// The number of the page, where it ends in both jobs, and how far the edges of near marks may lie
+/// from each other, in ticks.
 #[derive(Clone, Copy)]
 pub(crate) struct Setting {
     pub(crate) page: u64,

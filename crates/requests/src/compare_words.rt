@@ -16,7 +16,7 @@ pub enum ComparedJobs<'a> {
 pub struct Nearness {
     /// Those of a page count in any order.
     pub any_order: bool,
-    /// Their boxes may lie so far from each other, in 7200ths of an inch.
+    /// The edges of their boxes may lie so far from each other, in ticks.
     pub within: u64,
 }
 
