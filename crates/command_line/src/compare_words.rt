@@ -57,6 +57,11 @@ the number in OLD, and of what is only in NEW the one in NEW. Of more than --mos
 With --golden DIR each word is a NEW, and its OLD the file of the same name in DIR. Its lines end
 with NEW. A job that cannot be read has a line as in check, and the others are compared.
 
+With --picture OUT the first page that differs is drawn into the file OUT as an SVG, with --all each
+page of that printer, 100 at most, as an HTML document: gray what both have, red what OLD has alone,
+green what NEW has alone, and beside it the differences, 55 in the SVG and 1000 a page in the
+document at most. OUT takes its place when it is whole, and is as it was where no page differs.
+
 With --format words each line is a sentence, with --format json an object. Both jobs are read side by
 side, once for each printer: for several printers they have to be files. --any-order, --within and
 --all hold a page of each, of 1048576 marks at most.
@@ -195,8 +200,17 @@ fn read_pair<'a>(
         form: form_asked(found).unwrap_or(usual),
         nearness,
         extent,
-        picture: found.get_str("PICTURE"),
+        picture: picture_of(found)?,
     }))
+}
+
+/// The path of the picture. Standard output, which has the lines, is none.
+fn picture_of<'a>(found: &ArgMatches<'a>) -> Result<Option<&'a str>, ChoiceFault<'a>> {
+    let picture = found.get_str("PICTURE");
+    if matches!(picture, Some("-")) {
+        return Err(ChoiceFault::PictureOnOutput);
+    }
+    Ok(picture)
 }
 
 /// Jobs that are compared with those of their names in a folder, and printers of options alone.

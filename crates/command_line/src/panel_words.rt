@@ -22,6 +22,8 @@ pub enum ChoiceFault<'a> {
     Length(&'a str),
     #[error("--most: it limits what --all tells, which was not asked for")]
     MostAlone,
+    #[error("--picture: '-' is standard output, which has what differs in words; name a file")]
+    PictureOnOutput,
     #[error("--golden: each word behind it is a job; printers come by -p and -f")]
     NoPrinter,
     #[error("out of memory")]
