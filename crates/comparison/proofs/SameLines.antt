@@ -1,5 +1,5 @@
 -- Lines of text that both jobs print at once.
-use Rattle.std.proofs.Common.{◌≡◌, ℕ, zero, suc, ◌+◌, ◌-◌, ◌*◌, ◌^◌, ◌<◌, ◌≤◌, true, false, List, [], ◌∷◌, ◌++◌, length, map, min, take}
+use Rattle.std.proofs.Common.{◌≡◌, ℕ, suc, ◌+◌, ◌-◌, ◌*◌, ◌^◌, ◌<◌, ◌≤◌, true, false, List, [], ◌∷◌, ◌++◌, length, map, min, take}
 use Rattle.std.proofs.Common.{Option, None, Some, refl, ap, sym, ◌∙◌, subst, append-nil, append_assoc, arith}
 use Rattle.std.proofs.lemmas.List.{length-take-le, map-append, take-take}
 use Rattle.pcl_items.specs.declared.item.Mode.TheVariants.{Pcl}
@@ -17,8 +17,8 @@ use Rattle.page_env.specs.declared.text_lines.TextLines.{TextLines}
 use Rattle.page_env.specs.declared.text_lines.TextPlace.{TextPlace}
 use Rattle.page_env.specs.Mark.{Shape, characters_of}
 use Rattle.page_env.specs.Settings.{state_at}
-use Rattle.page_env.specs.TextLines.{behind, glyph_at, glyph_count, page_behind, page_behind_all, place_behind}
-use Rattle.page_env.specs.TextMeasure.{AllHaveRoom, AreLinesFrom, TextMeasure}
+use Rattle.page_env.specs.TextLines.{behind, glyph_at, page_behind, page_behind_all}
+use Rattle.page_env.specs.TextMeasure.{AreLinesFrom, TextMeasure}
 use Rattle.page_env.proofs.TextRooms.{measured_lines_go}
 use Rattle.page_machine.specs.Event.{Event, Marked}
 use Rattle.page_machine.specs.Job.{plain_run}
@@ -26,18 +26,17 @@ use Rattle.page_machine.specs.Machine.{item_of}
 use Rattle.page_machine.specs.MachineState.{MachineState}
 use Rattle.page_machine.specs.Run.{peaks_of}
 use Rattle.page_machine.specs.TextLines.{IsMeasuredAt, PrintsLines, glyph_events, machine_behind}
-use Rattle.comparison.proofs.TextBytes.{fewer_have_room, line_mode, lines_follow, lines_less, shape_count, shapes_of}
-use Rattle.sinks.specs.declared.counts.Counts.{Counts}
+use Rattle.comparison.proofs.TextBytes.{line_mode, lines_follow, lines_less, shape_count, shapes_of}
 use Rattle.sinks.specs.Counts.{capped, counted, counts_after}
 use Rattle.streams.specs.Source.{SourceState}
 use Rattle.comparison.specs.declared.difference.Difference.{Difference}
 use Rattle.comparison.specs.declared.difference.Spot.{Spot}
 use Rattle.comparison.specs.declared.stepping.Stepped.TheVariants.{On}
 use Rattle.comparison.specs.Comparison.{Made, all_made, at_start, behind_event, failure_on, made_at}
-use Rattle.comparison.specs.Comparing.{Following, FollowsOn, HasFollowed, StepCompares, events_made, spot_behind, still_made}
+use Rattle.comparison.specs.Comparing.{Following, FollowsOn, StepCompares, events_made, spot_behind, still_made}
 use Rattle.comparison.specs.Running.{CarriedTo, Gave, HasRun, RunState, any_panel, is_open, last_step, rest_items, work}
 use Rattle.comparison.specs.Running.{behind as behind_items}
-use Rattle.comparison.specs.Texts.{AreLinesOfBoth, FollowsLines, GoInBoth, GoNext, PassesLines, codes_ahead, text_events, text_made}
+use Rattle.comparison.specs.Texts.{FollowsLines, GoInBoth, GoNext, PassesLines, codes_ahead, text_events, text_made}
 use Rattle.comparison.proofs.Carried.{item_carried}
 use Rattle.comparison.proofs.Running.{stands_open, under_way}
 use Rattle.comparison.proofs.SoFar.{level_came, spot_behind-append}

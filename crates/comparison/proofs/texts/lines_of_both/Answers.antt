@@ -1,4 +1,4 @@
-use Rattle.std.proofs.Common.{◌≡◌, ◌<◌, ◌≤◌, ap, arith, length, sym, subst, take, ◌∙◌}
+use Rattle.std.proofs.Common.{◌≡◌, ◌≤◌, ap, arith, sym, subst, take, ◌∙◌}
 use Rattle.std.proofs.lemmas.List.{length-take-le, take-take}
 use Rattle.page_env.specs.TextLines.{glyph_count, place_behind}
 use Rattle.page_env.specs.TextMeasure.{AllHaveRoom}

@@ -1,4 +1,3 @@
-use Rattle.std.proofs.Common.{◌∙◌}
 use Rattle.comparison.proofs.SameLines.{lines_compare}
 use Rattle.comparison.proofs.texts.pass_same_lines.Goals as goal
 

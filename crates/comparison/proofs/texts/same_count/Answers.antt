@@ -1,1 +1,0 @@
-use Rattle.comparison.proofs.texts.same_count.Goals as goal

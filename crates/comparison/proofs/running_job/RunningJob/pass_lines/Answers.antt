@@ -1,7 +1,6 @@
 use Rattle.std.proofs.Common.{◌≡◌, ◌<◌, ◌++◌, true, ap, subst, sym, take, ◌∙◌}
 use Rattle.pcl_lexer.specs.Lexing.Passing.{ahead_of}
 use Rattle.page_env.specs.declared.text_lines.TextAppearance.{TextAppearance}
-use Rattle.page_env.specs.declared.text_lines.TextLines.{TextLines}
 use Rattle.page_env.specs.declared.text_lines.TextPlace.{TextPlace}
 use Rattle.page_machine.specs.TextLines.{PrintsLines}
 use Rattle.comparison.proofs.TextBytes.{lines_of}
