@@ -64,7 +64,7 @@ fn edges_of_row<A: Allocator>(row: &OwnedRow<A>) -> Edges
     ensures { result ≡ edges_of_row (row_of_owned row.now) }
 {
     let width = width_of(row.bytes.as_slice(), row.resolution);
-    let left = ticks_of(row.x);
+    let left = i128::from(row.x.ticks());
     let top = ticks_of(row.y);
     Edges {
         left,
