@@ -51,12 +51,12 @@ fn edges_of_box(bounds: &Bounds) -> Edges
     }
 }
 
-/// A length in ticks, as edges count them.
-fn ticks_of(length: Length) -> i128
-    ensures value { result ≡ length }
-    ensures in_range { IsInRange length }
+/// Where an edge lies, in ticks.
+fn ticks_of(edge: Length) -> i128
+    ensures value { result ≡ edge }
+    ensures in_range { IsInRange edge }
 {
-    i128::from(length.ticks())
+    i128::from(edge.ticks())
 }
 
 /// All bytes of a row.
