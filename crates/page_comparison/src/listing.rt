@@ -112,14 +112,14 @@ impl<A: Allocator> Listing<A> {
 
     /// The differences that are listed.
     pub(crate) fn into_listed(self) -> Vec<PageDifference, A>
-        ensures { result.items ≡ self.entry.listed }
+        ensures { result.items ≡ self.listed }
     {
         self.listed
     }
 
     /// What comes of two jobs that have so many pages and marks, of which all pages are over.
     pub(crate) fn into_comparison(self, counts: Counts) -> PageComparison<A>
-        ensures { told_pages result ≡ same_or counts (kept_told self.entry) }
+        ensures { told_pages result ≡ same_or counts (kept_told self) }
     {
         if self.pages == 0 {
             return PageComparison::Same(counts);
