@@ -71,7 +71,7 @@ fn is_all(extent: Extent) -> bool
 impl<'a, 'n> GoldenAsked<'a, 'n> {
     /// What is asked of a comparison of these two.
     pub(crate) fn of_pair(&self, pair: JobPair<'n>) -> CompareAsked<'a, 'n>
-        ensures { asked_for result ≡ asked_by (golden_for self.now) (names_of pair) }
+        ensures { asked_for result ≡ asked_by (golden_for self.now) (names_of pair.entry) }
     {
         CompareAsked {
             old_name: pair.old_name,

@@ -190,7 +190,7 @@ fn has_input(pairs: &[JobPair<'_>]) -> bool
 }
 
 fn is_input_of(pair: JobPair<'_>) -> bool
-    ensures { result ≡ is_input_of (names_of pair) }
+    ensures { result ≡ is_input_of (names_of pair.entry) }
 {
     is_input(pair.new_name.as_bytes())
 }
