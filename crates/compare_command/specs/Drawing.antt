@@ -1,5 +1,5 @@
 -- What the command `compare` leaves of two jobs, with a picture of what differs.
-use Rattle.std.specs.Prelude.{◌≡◌, ◌⊎◌, ◌&&◌, ℕ, Bool, true, false, List, ◌∷◌, IsFalse, IsTrue, Option, None, Some, ⊤}
+use Rattle.std.specs.Prelude.{◌≡◌, ◌⊎◌, ◌&&◌, ℕ, Bool, true, false, List, IsFalse, IsTrue, Option, None, Some, ⊤}
 use Rattle.device_profile.specs.Printer.{Printer}
 use Rattle.requests.specs.declared.status.Status.{Status}
 use Rattle.requests.specs.declared.status.Status.TheVariants.{Stopped}

@@ -1,5 +1,5 @@
 -- Which marks of a page differ.
-use Rattle.std.specs.Prelude.{ℕ, ◌-◌, ◌^◌, nat_lt, Bool, true, false, List, [], ◌∷◌, length, map, slice_set}
+use Rattle.std.specs.Prelude.{ℕ, ◌-◌, ◌^◌, nat_lt, Bool, true, false, List, [], ◌∷◌, length, slice_set}
 use Rattle.std.specs.Prelude.{if◌then◌else◌}
 use Rattle.comparison.specs.declared.compare.Which.{Which}
 use Rattle.comparison.specs.declared.compare.Which.TheVariants.{Old, New}

@@ -1,5 +1,5 @@
 //! The list of what differs on a page, beside its picture.
-ghost use Rattle.std.specs.Prelude.{◌≡◌, ◌++◌, OnOk, take};
+ghost use Rattle.std.specs.Prelude.{◌≡◌, ◌++◌, OnOk};
 ghost use Rattle.comparison_picture.specs.Lists.{
   change_name,
   line_text,

@@ -1,5 +1,5 @@
 -- What is left of a comparison of jobs of which none was read, with a picture in a file that is written.
-use Rattle.std.proofs.Common.{◌≡◌, ◌∙◌, ◌++◌, ◌∷◌, ℕ, Bool, false, true, List, [], Option, ap, inl, inr, map, subst}
+use Rattle.std.proofs.Common.{◌≡◌, ◌∙◌, ◌++◌, ◌∷◌, ℕ, Bool, true, List, [], Option, ap, inl, inr, map, subst}
 use Rattle.compare_command.specs.Compare.{Asked}
 use Rattle.compare_command.specs.Drawing.{LeavesDrawn}
 use Rattle.compare_command.specs.declared.drawing.Drawn.{Drawn}

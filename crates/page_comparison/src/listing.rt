@@ -6,7 +6,6 @@ ghost use Rattle.page_comparison.specs.Kept.{
   kept_told,
   kept_with,
   none_kept,
-  page_differs,
   page_over,
   pair_kept,
 };
