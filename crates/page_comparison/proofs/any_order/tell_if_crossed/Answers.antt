@@ -1,5 +1,4 @@
 use Rattle.std.proofs.Common.{◌≡◌, ◌+◌, ◌∷◌, Bool, [], ap, drop, if◌then◌else◌, sym, ◌∙◌}
-use Rattle.std.proofs.lemmas.Bool.{not-false}
 use Rattle.std.proofs.lemmas.Result.{on_ok_weaker}
 use Rattle.page_comparison.specs.declared.differences.PageChange.TheVariants.{Covers}
 use Rattle.page_comparison.specs.declared.differences.PageDifference.{PageDifference}
@@ -21,10 +20,9 @@ returns g c =
     let next = c.next_place-new_place.ensures ∙ ap (next_place setting.new_end) (rest_marks c.args.new.now place) in
     let is : c.difference.result ≡ told =
     c.difference.ensures ∙ (λ i. difference_at (c.standing-at.ensures i) here (next i) Covers) in
-    let crossed = not-false c.args.crossed c.if-not-crossed.false in
     on_ok_weaker c.tell.result
     (λ (kept : c.tell.new.self ≡ kept_with c.difference.result c.args.listing.now).
     kept
     ∙ (ap (λ (d : PageDifference). kept_with d c.args.listing.now) is
-    ∙ ap (λ (t : Bool). kept_all (if t then told ∷ [] else []) c.args.listing.now) (sym crossed)))
+    ∙ ap (λ (t : Bool). kept_all (if t then told ∷ [] else []) c.args.listing.now) (sym c.if-not-crossed.false)))
     c.tell.ensures
