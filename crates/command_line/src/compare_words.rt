@@ -187,6 +187,7 @@ fn read_pair<'a>(
         return Ok(None);
     };
     let (nearness, extent) = (nearness_of(found)?, extent_of(found)?);
+    let picture = picture_of(found)?;
     let mut printers = texts_of(alloc, found, "PROFILE")?;
     printers.extend_from_slice(found.get_strs("PRINTER").unwrap_or(&[]))?;
     let fleets = texts_of(alloc, found, "FLEET")?;
@@ -200,7 +201,7 @@ fn read_pair<'a>(
         form: form_asked(found).unwrap_or(usual),
         nearness,
         extent,
-        picture: picture_of(found)?,
+        picture,
     }))
 }
 
