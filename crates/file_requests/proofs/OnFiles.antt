@@ -6,7 +6,6 @@ use Rattle.profile_commands.specs.ProfileFromPjl.{AsksBaseIfAny, LeavesAnswered}
 use Rattle.profile_commands.specs.ProfileLint.{LeavesLint}
 use Rattle.profile_commands.specs.ProfileSheet.{LeavesSheet}
 use Rattle.profile_commands.specs.ProfileShow.{LeavesShown}
-use Rattle.device_profile.specs.Printer.{Printer}
 use Rattle.pdf_command.specs.Pdf.{LeavesPdf}
 use Rattle.picture_command.specs.Picture.{BeforeAndAfter, HasNoEnd, IsNamedBy, LeavesPicture}
 use Rattle.renderings.specs.Expected.{Rendering, plain_rendering}
@@ -347,16 +346,18 @@ pin_left path into at to word choices given texts failed job job' answer status 
       put = puts_out into answer status file' ended end;
     }
 
--- the printer of this word, by these texts
-abbrev named_by : (word : List ℕ) → (given texts : List (List ℕ)) → Printer → List ℕ → Type 0
-named_by word given texts = IsNamedBy given texts (IsNamed (text_named word) given texts)
+-- what the document of a job leaves, for the printer of this word by these texts
+abbrev document_left : Status → (word : List ℕ) → List Choice → Selection → Bool → (path : List ℕ) → (given texts : List (List ℕ)) →
+    SourceState → SourceState → OutletState → OutletState → OutletState → OutletState → Type 0
+document_left answer word choices selection is_proof path given texts =
+    LeavesPdf answer (IsNamedBy given texts (IsNamed (text_named word) given texts)) choices selection is_proof path
 
 pub pdf_left : (path into at to word : List ℕ) (choices : List Choice) (selection : Selection) (is_proof : Bool)
     (given texts : List (List ℕ)) (failed : Bool)
     (job job' : SourceState) (answer status : Status) (out out' file file' err err' : OutletState) (ended : FileOutletState)
     (before named : List (List ℕ)) (used early between used' : List FileUse)
     → given ≡ [] → job ≡ no_source → file ≡ no_outlet
-    → EndsBy answer (λ s s'. LeavesPdf answer (named_by word given texts) choices selection is_proof path s s' file file' out out') job job'
+    → EndsBy answer (λ s s'. document_left answer word choices selection is_proof path given texts s s' file file' out out') job job'
     (job'.failed || failed) (file'.failed || out'.failed)
     → TellsOfPin answer (IsNamed (text_named word) given texts) choices err err'
     → EndsOut answer status file' ended
@@ -378,22 +379,22 @@ pdf_left path into at to word choices selection is_proof given texts failed job 
           (texts_read used early before named texts (word ∷ []) failed unnamed are told) (one_read early between path at job' is read))
           (one_written between used' into to ended.outlet ended.is_put is_out written);
       ends =
-          at_reads answer (λ s s'. LeavesPdf answer (named_by word [] texts) choices selection is_proof path s s' no_outlet file' out out')
+          at_reads answer (λ s s'. document_left answer word choices selection is_proof path [] texts s s' no_outlet file' out out')
           no_source
           job' (job'.failed || failed) (file'.failed || out'.failed)
           (subst
-          (λ f. EndsBy answer (λ s s'. LeavesPdf answer (named_by word [] texts) choices selection is_proof path s s' f file' out out')
+          (λ f. EndsBy answer (λ s s'. document_left answer word choices selection is_proof path [] texts s s' f file' out out')
           no_source
           job' (job'.failed || failed) (file'.failed || out'.failed))
           unwritten
           (subst
-          (λ g. EndsBy answer (λ s s'. LeavesPdf answer (named_by word g texts) choices selection is_proof path s s' file file' out out')
+          (λ g. EndsBy answer (λ s s'. document_left answer word choices selection is_proof path g texts s s' file file' out out')
           no_source
           job' (job'.failed || failed) (file'.failed || out'.failed))
           none
           (subst
           (λ s. EndsBy answer
-          (λ s s'. LeavesPdf answer (named_by word given texts) choices selection is_proof path s s' file file' out out') s job'
+          (λ s s'. document_left answer word choices selection is_proof path given texts s s' file file' out out') s job'
           (job'.failed || failed) (file'.failed || out'.failed))
           new ends)));
       choice = subst (λ g. TellsOfPin answer (IsNamed (text_named word) g texts) choices err err') none choice;

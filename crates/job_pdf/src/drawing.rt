@@ -93,7 +93,7 @@ pub(crate) fn step_on<W: Outlet, A: Allocator, P: Allocator, B: Allocator + Copy
     ensures err { IfErr result IsErrorOfRendering }
 {
     let mut text = DocumentText {
-        outlet,
+        outlet: &mut *outlet,
         kept,
         document,
         sheet: *sheet,
@@ -102,7 +102,7 @@ pub(crate) fn step_on<W: Outlet, A: Allocator, P: Allocator, B: Allocator + Copy
         Ok(()) => Ok(None),
         Err(Stop::Found(finding)) => Ok(Some(finding)),
         // Whether the outlet failed or memory was refused, the outlet tells.
-        Err(Stop::Refused(_)) => Err(refusal(text.outlet)),
+        Err(Stop::Refused(_)) => Err(refusal(outlet)),
         Err(Stop::Memory(_)) => Err(Error::Memory),
         Err(Stop::Stopped) => unreachable!(),
     }
@@ -125,7 +125,7 @@ pub(crate) fn finish_on<W: Outlet, A: Allocator, P: Allocator, B: Allocator + Co
     ensures err { IfErr result IsErrorOfRendering }
 {
     let mut text = DocumentText {
-        outlet,
+        outlet: &mut *outlet,
         kept,
         document,
         sheet: *sheet,
@@ -134,7 +134,7 @@ pub(crate) fn finish_on<W: Outlet, A: Allocator, P: Allocator, B: Allocator + Co
         Ok(()) => Ok(None),
         Err(Stop::Found(finding)) => Ok(Some(finding)),
         // Whether the outlet failed or memory was refused, the outlet tells.
-        Err(Stop::Refused(_)) => Err(refusal(text.outlet)),
+        Err(Stop::Refused(_)) => Err(refusal(outlet)),
         Err(Stop::Memory(_)) => Err(Error::Memory),
         Err(Stop::Stopped) => unreachable!(),
     }

@@ -61,6 +61,11 @@ then_last (Err e) first last text mid new pdf one appended = tt
 
 -- ---- a page
 
+-- what is known is changed behind a step
+pub changed : (f : Pdf → Pdf) (step : Written) (text new : List ℕ) (pdf pdf' : Pdf) → HasWritten step text new pdf →
+    pdf' ≡ f pdf → HasWritten (record { text = step.text; pdf = f step.pdf }) text new pdf'
+changed f step text new pdf pdf' written is = record { text_is = written.text_is; pdf_is = is ∙ ap f written.pdf_is }
+
 -- what marks it begins behind a step
 pub opened : (step : Written) (text new : List ℕ) (pdf pdf' : Pdf) → HasWritten step text new pdf → pdf' ≡ opens_page pdf →
     HasWritten (record { text = step.text; pdf = opens_page step.pdf }) text new pdf'

@@ -2,18 +2,23 @@
 use Rattle.std.specs.Prelude.{◌≡◌, ℕ, ℤ, ◌+◌, ◌-◌, ◌/◌, ◌^◌, min, Bool, true, false, if◌then◌else◌, List, [], ◌∷◌, ◌++◌}
 use Rattle.std.specs.Prelude.{codes, decimal, length}
 use Rattle.page_env.specs.declared.mark.PageEnd.{PageEnd}
-use Rattle.page_env.specs.Mark.{Shape}
+use Rattle.device_profile.specs.declared.geometry.Geometry.{Geometry}
+use Rattle.page_env.specs.Mark.{PixelRow, Shape, Rectangle, Character, Row, Line}
 use Rattle.page_picture.specs.declared.characters.Repertoire.{Repertoire}
 use Rattle.page_picture.specs.declared.characters.Repertoire.TheVariants.{Pc8, Pc850, Roman8, Windows}
 use Rattle.page_pdf.specs.declared.document.PageSheet.{PageSheet}
+use Rattle.page_pdf.specs.declared.pending.Pending.{Pending}
+use Rattle.page_pdf.specs.declared.pending.Pending.TheVariants.{Nothing}
 use Rattle.page_pdf.specs.declared.fixed_objects.FixedObject.{FixedObject}
 use Rattle.page_pdf.specs.declared.fixed_objects.FixedObject.TheVariants as fixed
+use Rattle.page_pdf.specs.Bands.{frame_width, framed}
 use Rattle.page_pdf.specs.FixedObjects.{fixed_object}
 use Rattle.page_pdf.specs.Maps.{map_object}
 use Rattle.page_pdf.specs.Marks.{mark_text}
 use Rattle.page_pdf.specs.Objects.{catalog_body, content_end, content_start, end_words, failing_words, information_body}
 use Rattle.page_pdf.specs.Objects.{label_body, object_text, page_body, pages_body, verdict_body}
 use Rattle.page_pdf.specs.Pages.{failed_text, page_end, page_start}
+use Rattle.page_pdf.specs.Pending.{goes_on, pending_text, with_row}
 use Rattle.page_pdf.specs.Table.{places_table}
 
 -- ---- what is known of it
@@ -25,11 +30,13 @@ pub record Pdf : Type 0 where
   pub begun : ℕ
   pub is_open : Bool
   pub page : ℕ
+  pub pending : Pending
+  pub pixels : List ℕ
   pub places : List ℕ
 
 -- nothing is written
 abbrev pub no_pdf : Pdf
-no_pdf = record { written = 0; begun = 0; is_open = false; page = 1; places = [] }
+no_pdf = record { written = 0; begun = 0; is_open = false; page = 1; pending = Nothing; pixels = []; places = [] }
 
 -- the number of the next object, where 1 to 4 stand at the end
 abbrev pub next_object : Pdf → ℕ
@@ -133,9 +140,50 @@ page_begun sheet pdf = and_then (marks_begun pdf) (writes (page_start sheet.pape
 abbrev pub page_due : PageSheet → Pdf → Written
 page_due sheet pdf = if pdf.is_open then nothing pdf else page_begun sheet pdf
 
+-- nothing is pending any more
+abbrev pub without_pending : Pdf → Pdf
+without_pending pdf = record pdf { pending = Nothing; pixels = [] }
+
+-- what is pending is written
+unfoldable pub settled : Pdf → Written
+settled pdf =
+    record {
+      text = pending_text pdf.pending pdf.pixels;
+      pdf = without_pending (writes (pending_text pdf.pending pdf.pixels) pdf).pdf;
+    }
+
+-- unless this mark goes on with it
+abbrev pub settled_before : Geometry → Shape → Pdf → Written
+settled_before paper mark pdf =
+    if goes_on paper pdf.pending (length pdf.pixels) mark then nothing pdf else settled pdf
+
+-- a row is kept
+abbrev pub row_kept : Geometry → PixelRow → Pdf → Pdf
+row_kept paper row pdf =
+    record pdf {
+      pending = with_row paper pdf.pending row;
+      pixels = pdf.pixels ++ framed (frame_width paper row.resolution) row;
+    }
+
+-- what is kept of a mark
+abbrev pub mark_kept : Geometry → Shape → Pdf → Pdf
+mark_kept paper (Rectangle area) pdf = pdf
+mark_kept paper (Character glyph) pdf = pdf
+mark_kept paper (Row row) pdf = row_kept paper row pdf
+mark_kept paper (Line line) pdf = pdf
+
+-- a mark that goes on with what is pending, or has nothing before it
+unfoldable pub mark_put : Geometry → Shape → Pdf → Written
+mark_put paper mark pdf = writes (mark_text mark) (mark_kept paper mark pdf)
+
 -- a mark on it
 unfoldable pub mark_written : PageSheet → Shape → Pdf → Written
-mark_written sheet mark pdf = and_then (page_due sheet pdf) (writes (mark_text mark))
+mark_written sheet mark pdf =
+    and_then (and_then (page_due sheet pdf) (settled_before sheet.paper mark)) (mark_put sheet.paper mark)
+
+-- the page that has begun, with all its marks
+unfoldable pub page_ready : PageSheet → Pdf → Written
+page_ready sheet pdf = and_then (page_due sheet pdf) settled
 
 -- how long what marks it is
 abbrev pub marks_length : Pdf → ℕ
@@ -163,12 +211,12 @@ page_closed sheet words pdf =
 
 -- the end of a page that is printed so
 unfoldable pub end_written : PageSheet → PageEnd → Pdf → Written
-end_written sheet end pdf = and_then (page_due sheet pdf) (page_closed sheet (end_words end))
+end_written sheet end pdf = and_then (page_ready sheet pdf) (page_closed sheet (end_words end))
 
 -- the end of one on which the job fails
 unfoldable pub failure_written : PageSheet → (x y : ℤ) → (sentence : List ℕ) → Pdf → Written
 failure_written sheet x y sentence pdf =
-    and_then (and_then (page_due sheet pdf) (writes (failed_text sheet.paper x y sentence)))
+    and_then (and_then (page_ready sheet pdf) (writes (failed_text sheet.paper x y sentence)))
     (page_closed sheet failing_words)
 
 -- the next page of the job

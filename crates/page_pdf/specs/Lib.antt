@@ -6,6 +6,8 @@ pub mod Figures
 pub mod Hexes
 pub mod Codes
 pub mod Marks
+pub mod Bands
+pub mod Pending
 pub mod Pages
 pub mod Maps
 pub mod Objects

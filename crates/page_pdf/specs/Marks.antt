@@ -1,13 +1,12 @@
 -- What marks a page, mark by mark.
-use Rattle.std.specs.Prelude.{ℕ, ◌*◌, ◌/◌, nat_le, if◌then◌else◌, List, [], ◌∷◌, ◌++◌, length, decimal}
+use Rattle.std.specs.Prelude.{ℕ, nat_le, if◌then◌else◌, List, [], ◌∷◌, ◌++◌, decimal}
 use Rattle.std.specs.Prelude.{Option, None, Some}
 use Rattle.page_env.specs.declared.mark.Area.{Area}
 use Rattle.page_env.specs.declared.mark.Fill.{Fill}
 use Rattle.page_env.specs.declared.mark.Fill.TheVariants.{Solid, Erase, Shade, Hatch}
 use Rattle.page_env.specs.declared.mark.Glyph.{Glyph}
 use Rattle.page_env.specs.declared.mark.PenLine.{PenLine}
-use Rattle.page_env.specs.declared.page.Resolution.{Resolution}
-use Rattle.page_env.specs.Mark.{PixelRow, Shape, Rectangle, Character, Row, Line, pixels_per_inch}
+use Rattle.page_env.specs.Mark.{Shape, Rectangle, Character, Row, Line}
 use Rattle.page_picture.specs.Characters.{character_of, repertoire_of}
 use Rattle.page_pdf.specs.declared.mark_parts.MarkPart.TheVariants as parts
 use Rattle.page_pdf.specs.Codes.{face_name, hidden_name, letter_of}
@@ -79,25 +78,6 @@ character_text glyph (Some character) = known_text glyph (letter_of character)
 unfoldable pub glyph_text : Glyph → List ℕ
 glyph_text glyph = character_text glyph (character_of glyph.request.symbol_set glyph.code)
 
--- ---- rows of rasters
-
--- how many units a pixel is wide, and high: an inch has 7200
-abbrev pub pixel_units : Resolution → ℕ
-pixel_units resolution = 7200 / pixels_per_inch resolution
-
--- how large a row is, and where it stands: where its first byte begins
-unfoldable pub row_place : PixelRow → List ℕ
-row_place row =
-    decimal (8 * length row.bytes * pixel_units row.resolution) ++ mark_part parts.RowHeight
-    ++ decimal (pixel_units row.resolution)
-    ++ mark_part parts.RowPlace ++ length_figure row.x ++ length_figure row.y
-
--- an image of one row, whose black pixels mark the page
-unfoldable pub row_text : PixelRow → List ℕ
-row_text row =
-    mark_part parts.RowStart ++ row_place row ++ mark_part parts.RowPixels ++ decimal (8 * length row.bytes)
-    ++ mark_part parts.RowData ++ row.bytes ++ mark_part parts.RowEnd
-
 -- ---- lines of a pen
 
 unfoldable pub line_text : PenLine → List ℕ
@@ -107,8 +87,9 @@ line_text line =
 
 -- ---- a mark
 
+-- a row has no text of its own: it is kept, and goes into an image with those round it
 abbrev pub mark_text : Shape → List ℕ
 mark_text (Rectangle area) = area_text area
 mark_text (Character glyph) = glyph_text glyph
-mark_text (Row row) = row_text row
+mark_text (Row row) = []
 mark_text (Line line) = line_text line

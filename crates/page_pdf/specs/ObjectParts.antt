@@ -36,7 +36,7 @@ object_part object_parts.Subject = codes ">/Subject<"
 object_part object_parts.InformationEnd = codes ">>>"
 object_part object_parts.Verdict =
     codes "<</Type/XObject /Subtype/Form /BBox[0 0 20000 30] /Resources<</Font<</F1 6 0 R>>>> /Length "
-object_part object_parts.VerdictStream = codes ">>\nstream\nBT /F1 6 Tf 18 16 Td <"
+object_part object_parts.VerdictStream = codes ">>\nstream\nBT /F1 5 Tf 18 16 Td <"
 object_part object_parts.VerdictEnd = codes "> Tj ET\nendstream"
 object_part object_parts.Table = codes "xref\n0 "
 object_part object_parts.TableFree = codes "\n0000000000 65535 f \n"

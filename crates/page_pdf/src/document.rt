@@ -1,6 +1,6 @@
 //! A document as it is written, page by page: where its objects stand is kept for its end.
 ghost use Rattle.std.specs.Prelude.{◌≡◌, ◌+◌, ◌-◌, ◌≤◌, ◌^◌, ◌++◌, OnOk, length, vec_len};
-ghost use Rattle.page_env.specs.Mark.{shape_of};
+ghost use Rattle.page_env.specs.Mark.{row_of, shape_of};
 ghost use Rattle.page_pdf.specs.Document.{
   HasWritten,
   begins_object,
@@ -15,6 +15,8 @@ ghost use Rattle.page_pdf.specs.Document.{
   marks_begun,
   marks_ended,
   marks_length,
+  mark_kept,
+  mark_put,
   next_object,
   next_of,
   no_pdf,
@@ -25,15 +27,21 @@ ghost use Rattle.page_pdf.specs.Document.{
   page_closed,
   page_count,
   page_due,
+  page_ready,
   page_told,
+  row_kept,
+  settled,
+  settled_before,
   sheet_told,
   table_of,
+  without_pending,
   writes,
 };
 ghost use Rattle.page_pdf.specs.Objects.{catalog_body, information_body, pages_body};
 ghost use Rattle.page_pdf.specs.Objects.{verdict_body};
 ghost use Rattle.page_pdf.specs.Pages.{failed_text, page_end, page_start};
 
+use crate::bands::{frame_width, push_framed};
 use crate::counting::written_behind;
 use crate::marks::push_mark;
 use crate::object_parts::ObjectPart;
@@ -42,9 +50,10 @@ use crate::objects::{
     push_object_text, push_page_body, push_pages_body, push_verdict_body,
 };
 use crate::pages::{push_failed, push_page_end, push_page_start};
+use crate::pending::{Pending, goes_on, push_pending, with_row};
 use crate::table::push_places_table;
 use device_profile::Geometry;
-use page_env::{Mark, PageEnd, SheetPlace};
+use page_env::{Mark, PageEnd, RasterRow, SheetPlace};
 use shown_bytes::push_number;
 use std::alloc::{AllocError, Allocator, Global};
 use std::marker::Model;
@@ -66,6 +75,10 @@ pub struct Document<A: Allocator + Copy = Global> {
     is_open: bool,
     /// The number of the page of the job that is open, from 1.
     page: u64,
+    /// What is still to be written of it.
+    pending: Pending,
+    /// The pixels of rows that are kept.
+    pixels: Vec<u8, A>,
     /// Where the objects from the fifth on stand.
     places: Vec<u64, A>,
 }
@@ -80,6 +93,8 @@ impl<A: Allocator + Copy> Model for Document<A> {
       begun = document.begun;
       is_open = document.is_open;
       page = document.page;
+      pending = document.pending;
+      pixels = document.pixels.items;
       places = document.places.items;
     } };
 }
@@ -103,6 +118,8 @@ impl<A: Allocator + Copy> Document<A> {
             begun: 0,
             is_open: false,
             page: 1,
+            pending: Pending::Nothing,
+            pixels: Vec::new(alloc),
             places: Vec::new(alloc),
         }
     }
@@ -115,6 +132,8 @@ impl<A: Allocator + Copy> Document<A> {
         self.begun = 0;
         self.is_open = false;
         self.page = 1;
+        self.pending = Pending::Nothing;
+        self.pixels.clear();
         self.places.clear();
     }
 
@@ -137,6 +156,20 @@ impl<A: Allocator + Copy> Document<A> {
         ensures { result ≡ self.now.page }
     {
         self.page
+    }
+
+    /// What is still to be written of it.
+    fn pending(&self) -> Pending
+        ensures { result ≡ self.now.pending }
+    {
+        self.pending
+    }
+
+    /// The pixels of rows that are kept.
+    fn pixels(&self) -> &[u8]
+        ensures { result.now ≡ self.now.pixels }
+    {
+        &self.pixels
     }
 
     /// Where the objects from the fifth on stand.
@@ -300,6 +333,82 @@ impl<A: Allocator + Copy> Document<A> {
         self.begin_page(text, sheet)
     }
 
+    /// Nothing is pending any more.
+    fn drop_pending(&mut self)
+        ensures { self.new ≡ without_pending self.old }
+    {
+        self.pending = Pending::Nothing;
+        self.pixels.clear();
+    }
+
+    /// Writes what is pending.
+    fn settle<B: Allocator>(&mut self, text: &mut Vec<u8, B>) -> Result<(), AllocError>
+        ensures { OnOk result
+            (HasWritten (settled self.old) text.old.items text.new.items self.new) }
+    {
+        let old_len = text.len();
+        push_pending(text, &self.pending(), self.pixels())?;
+        self.count(old_len, text);
+        self.drop_pending();
+        Ok(())
+    }
+
+    /// Writes what is pending, unless a mark goes on with it.
+    fn settle_before<B: Allocator>(
+        &mut self,
+        text: &mut Vec<u8, B>,
+        paper: &Geometry,
+        mark: &Mark<'_>,
+    ) -> Result<(), AllocError>
+        ensures { OnOk result (HasWritten
+            (settled_before paper.now (shape_of mark.now) self.old)
+            text.old.items text.new.items self.new) }
+    {
+        let is_on = goes_on(paper, &self.pending(), self.pixels().len(), mark);
+        if is_on {
+            return Ok(());
+        }
+        self.settle(text)
+    }
+
+    /// Keeps a row.
+    fn keep_row(&mut self, paper: &Geometry, row: &RasterRow<'_>) -> Result<(), AllocError>
+        ensures { OnOk result (self.new ≡ row_kept paper.now (row_of row.now) self.old) }
+    {
+        push_framed(&mut self.pixels, frame_width(paper, row.resolution), row)?;
+        self.pending = with_row(paper, &self.pending, row);
+        Ok(())
+    }
+
+    /// Keeps what is not written yet of a mark.
+    fn keep(&mut self, paper: &Geometry, mark: &Mark<'_>) -> Result<(), AllocError>
+        ensures { OnOk result (self.new ≡ mark_kept paper.now (shape_of mark.now) self.old) }
+    {
+        match mark {
+            Mark::Rect(_) => Ok(()),
+            Mark::Glyph(_) => Ok(()),
+            Mark::Row(row) => self.keep_row(paper, row),
+            Mark::Line(_) => Ok(()),
+        }
+    }
+
+    /// Writes or keeps a mark that goes on with what is pending, or has nothing before it.
+    fn put_mark<B: Allocator>(
+        &mut self,
+        text: &mut Vec<u8, B>,
+        paper: &Geometry,
+        mark: &Mark<'_>,
+    ) -> Result<(), AllocError>
+        ensures { OnOk result (HasWritten (mark_put paper.now (shape_of mark.now) self.old)
+            text.old.items text.new.items self.new) }
+    {
+        self.keep(paper, mark)?;
+        let old_len = text.len();
+        push_mark(text, mark)?;
+        self.count(old_len, text);
+        Ok(())
+    }
+
     /// Writes a mark on the page that is open.
     pub fn push_mark<B: Allocator>(
         &mut self,
@@ -311,10 +420,21 @@ impl<A: Allocator + Copy> Document<A> {
             text.old.items text.new.items self.new) }
     {
         self.begin_if_due(text, sheet)?;
-        let old_len = text.len();
-        push_mark(text, mark)?;
-        self.count(old_len, text);
-        Ok(())
+        self.settle_before(text, &sheet.paper, mark)?;
+        self.put_mark(text, &sheet.paper, mark)
+    }
+
+    /// Begins a page, unless it has begun, and writes what is pending on it.
+    fn make_ready<B: Allocator>(
+        &mut self,
+        text: &mut Vec<u8, B>,
+        sheet: &PageSheet,
+    ) -> Result<(), AllocError>
+        ensures { OnOk result
+            (HasWritten (page_ready sheet.now self.old) text.old.items text.new.items self.new) }
+    {
+        self.begin_if_due(text, sheet)?;
+        self.settle(text)
     }
 
     /// How long what marks the page is that is open.
@@ -420,7 +540,7 @@ impl<A: Allocator + Copy> Document<A> {
     {
         let mut words = Vec::new(self.alloc());
         push_end_words(&mut words, end)?;
-        self.begin_if_due(text, sheet)?;
+        self.make_ready(text, sheet)?;
         self.close_page(text, sheet, words.as_slice())
     }
 
@@ -454,7 +574,7 @@ impl<A: Allocator + Copy> Document<A> {
             (HasWritten (failure_written sheet.now spot.x spot.y sentence.now self.old)
             text.old.items text.new.items self.new) }
     {
-        self.begin_if_due(text, sheet)?;
+        self.make_ready(text, sheet)?;
         self.push_why(text, sheet, spot, sentence)?;
         self.close_page(text, sheet, ObjectPart::LabelFails.bytes())
     }

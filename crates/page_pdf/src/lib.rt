@@ -2,6 +2,7 @@
 //! the table of where these stand.
 #![tactic(auto)]
 
+mod bands;
 mod codes;
 mod counting;
 mod document;
@@ -15,6 +16,7 @@ mod object_parts;
 mod objects;
 mod page_parts;
 mod pages;
+mod pending;
 mod starts;
 mod table;
 

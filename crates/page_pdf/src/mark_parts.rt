@@ -27,18 +27,20 @@ pub(crate) enum MarkPart {
     LineFrom,
     /// Behind where it ends.
     LineTo,
-    /// Before a row of a raster.
-    RowStart,
-    /// Between how wide it is and how high.
-    RowHeight,
+    /// Before rows of a raster.
+    BandStart,
+    /// Between how wide they are and how high; the first lies on top.
+    BandHeight,
     /// Between that and where it stands.
-    RowPlace,
-    /// Before how many pixels it has.
-    RowPixels,
-    /// Before its bytes; a bit that is set is black.
-    RowData,
+    BandPlace,
+    /// Before how many pixels a row has.
+    BandPixels,
+    /// Before how many rows there are.
+    BandRows,
+    /// Before their bytes; a bit that is set is black.
+    BandData,
     /// Behind them.
-    RowEnd,
+    BandEnd,
     /// Before the box of a character.
     BoxStart,
     /// Behind a box.
@@ -81,12 +83,13 @@ impl MarkPart {
             MarkPart::LineWidth => b"w ",
             MarkPart::LineFrom => b"m ",
             MarkPart::LineTo => b"l S\n",
-            MarkPart::RowStart => b"q ",
-            MarkPart::RowHeight => b" 0 0 ",
-            MarkPart::RowPlace => b" ",
-            MarkPart::RowPixels => b"cm BI/W ",
-            MarkPart::RowData => b"/H 1/IM true/D[1 0]ID ",
-            MarkPart::RowEnd => b"\nEI Q\n",
+            MarkPart::BandStart => b"q ",
+            MarkPart::BandHeight => b" 0 0 -",
+            MarkPart::BandPlace => b" ",
+            MarkPart::BandPixels => b"cm BI/W ",
+            MarkPart::BandRows => b"/H ",
+            MarkPart::BandData => b"/IM true/D[1 0]ID ",
+            MarkPart::BandEnd => b"\nEI Q\n",
             MarkPart::BoxStart => b"q .75 G 24 w ",
             MarkPart::BoxEnd => b"S Q\n",
             MarkPart::TextStart => b"BT /",

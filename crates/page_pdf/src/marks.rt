@@ -1,6 +1,6 @@
 //! What marks a page, mark by mark.
-ghost use Rattle.std.specs.Prelude.{◌≡◌, ◌*◌, ◌≤◌, ◌^◌, ◌++◌, OnOk, length};
-ghost use Rattle.page_env.specs.Mark.{row_of, shape_of};
+ghost use Rattle.std.specs.Prelude.{◌≡◌, ◌++◌, OnOk};
+ghost use Rattle.page_env.specs.Mark.{shape_of};
 ghost use Rattle.page_pdf.specs.Marks.{
   area_text,
   box_text,
@@ -14,24 +14,18 @@ ghost use Rattle.page_pdf.specs.Marks.{
   letter_text,
   line_text,
   mark_text,
-  pixel_units,
-  row_place,
-  row_text,
   shade_digit,
 };
 
 use crate::codes::{face_name, hidden_name, letter_of};
-use crate::figures::{
-    letter_width, push_box, push_code, push_count, push_figure, push_height, push_length,
-    push_ticks,
-};
+use crate::figures::{letter_width, push_box, push_code, push_figure, push_height, push_length};
 use crate::mark_parts::MarkPart;
-use page_env::{Area, Fill, Glyph, Mark, PenLine, RasterRow, Resolution};
+use page_env::{Area, Fill, Glyph, Mark, PenLine};
 use page_picture::{character_of, repertoire_of};
 use shown_bytes::push_number;
 use std::alloc::{AllocError, Allocator};
 
-/// Appends what a mark is on its page.
+/// Appends what a mark is on its page: nothing of a row, which is kept.
 pub(crate) fn push_mark<A: Allocator>(
     text: &mut Vec<u8, A>,
     mark: &Mark<'_>,
@@ -41,7 +35,7 @@ pub(crate) fn push_mark<A: Allocator>(
     match mark {
         Mark::Rect(area) => push_area(text, area),
         Mark::Glyph(glyph) => push_glyph(text, glyph),
-        Mark::Row(row) => push_row(text, row),
+        Mark::Row(_) => Ok(()),
         Mark::Line(line) => push_line(text, line),
     }
 }
@@ -206,70 +200,6 @@ fn push_hidden<A: Allocator>(text: &mut Vec<u8, A>, glyph: &Glyph) -> Result<(),
     text.extend_from_slice(MarkPart::TextCode.bytes())?;
     push_code(text, glyph.code)?;
     text.extend_from_slice(MarkPart::HiddenEnd.bytes())
-}
-
-// ---- rows of rasters
-
-/// How many units a pixel is wide, and high.
-fn pixel_units(resolution: Resolution) -> u128
-    ensures units { result ≡ pixel_units resolution }
-    ensures few { result ≤ 96 }
-{
-    match resolution {
-        Resolution::Dots75 => 96,
-        Resolution::Dots100 => 72,
-        Resolution::Dots150 => 48,
-        Resolution::Dots200 => 36,
-        Resolution::Dots300 => 24,
-        Resolution::Dots600 => 12,
-    }
-}
-
-/// How many pixels a row has: eight a byte.
-fn pixel_count(bytes: &[u8]) -> u128
-    ensures value { result ≡ 8 * length bytes.now }
-    ensures few { result ≤ 2 ^ 67 }
-{
-    8 * bytes.len() as u128
-}
-
-/// How many units so many pixels go, of which each goes so many.
-fn units_of(pixels: u128, pixel: u128) -> u128
-    requires few { pixels ≤ 2 ^ 67 }
-    requires small { pixel ≤ 96 }
-    ensures { result ≡ pixels * pixel }
-{
-    pixels * pixel
-}
-
-/// Appends how large a row is, and where it stands.
-#[tactic(auto, unfolding(crate::specs::Marks::row_place))]
-fn push_row_place<A: Allocator>(
-    text: &mut Vec<u8, A>,
-    row: &RasterRow<'_>,
-) -> Result<(), AllocError>
-    ensures { OnOk result (text.new.items ≡ text.old.items ++ row_place (row_of row.now)) }
-{
-    let pixel = pixel_units(row.resolution);
-    push_count(text, units_of(pixel_count(row.bytes), pixel))?;
-    text.extend_from_slice(MarkPart::RowHeight.bytes())?;
-    push_count(text, pixel)?;
-    text.extend_from_slice(MarkPart::RowPlace.bytes())?;
-    push_ticks(text, row.x.ticks())?;
-    push_length(text, row.y)
-}
-
-#[tactic(auto, unfolding(crate::specs::Marks::row_text))]
-fn push_row<A: Allocator>(text: &mut Vec<u8, A>, row: &RasterRow<'_>) -> Result<(), AllocError>
-    ensures { OnOk result (text.new.items ≡ text.old.items ++ row_text (row_of row.now)) }
-{
-    text.extend_from_slice(MarkPart::RowStart.bytes())?;
-    push_row_place(text, row)?;
-    text.extend_from_slice(MarkPart::RowPixels.bytes())?;
-    push_count(text, pixel_count(row.bytes))?;
-    text.extend_from_slice(MarkPart::RowData.bytes())?;
-    text.extend_from_slice(row.bytes)?;
-    text.extend_from_slice(MarkPart::RowEnd.bytes())
 }
 
 // ---- lines of a pen

@@ -126,7 +126,7 @@ impl ObjectPart {
                 b"<</Type/XObject /Subtype/Form /BBox[0 0 20000 30] /Resources<</Font<</F1 6 0 \
                 R>>>> /Length "
             }
-            ObjectPart::VerdictStream => b">>\nstream\nBT /F1 6 Tf 18 16 Td <",
+            ObjectPart::VerdictStream => b">>\nstream\nBT /F1 5 Tf 18 16 Td <",
             ObjectPart::VerdictEnd => b"> Tj ET\nendstream",
             ObjectPart::Table => b"xref\n0 ",
             ObjectPart::TableFree => b"\n0000000000 65535 f \n",
