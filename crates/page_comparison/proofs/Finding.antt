@@ -81,22 +81,22 @@ module _ (p : Turn → Bool) (count together : ℕ) (found : Option Turn) where
 
   pub split_more : count < together → (t : Bool) → t ≡ p (leaving count (together - count)) → t ≡ false →
       find p (splits count (together - count)) ≡ found → find p (splits (count + 1) (together - (count + 1))) ≡ found
-  split_more inside t is no so_far =
+  split_more inside t is differs so_far =
       sym
       (next_split inside
       ∙ ap
       (λ b. cond b (Some (leaving count (together - count))) (find p (splits (count + 1) (together - (count + 1)))))
-      (sym is ∙ no))
+      (sym is ∙ differs))
       ∙ so_far
 
   pub split_found : count < together → (t : Bool) → t ≡ p (leaving count (together - count)) → t ≡ true →
       find p (splits count (together - count)) ≡ found → Some (leaving count (together - count)) ≡ found
-  split_found inside t is yes so_far =
+  split_found inside t is near so_far =
       sym
       (next_split inside
       ∙ ap
       (λ b. cond b (Some (leaving count (together - count))) (find p (splits (count + 1) (together - (count + 1)))))
-      (sym is ∙ yes))
+      (sym is ∙ near))
       ∙ so_far
 
   -- the last way leaves none of NEW out

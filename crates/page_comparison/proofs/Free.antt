@@ -78,25 +78,25 @@ module _ (within : ℕ) (a : MadeMark) where
         is_match within a (made_mark x) t ≡ false → (found : Option ℕ) →
         found ≡ option_map (λ i. i + p) (first_free within a (made_marks (drop p xs)) (drop p taken)) →
         found ≡ option_map (λ i. i + (p + 1)) (first_free within a (made_marks (drop (p + 1) xs)) (drop (p + 1) taken))
-    free_more inside is got no found so_far =
+    free_more inside is got differs found so_far =
         let rest : Option ℕ = first_free within a (made_marks (drop (p + 1) xs)) (drop (p + 1) taken) in
         so_far
         ∙ (ap (option_map (λ i. i + p))
-        (free_at inside is got ∙ ap (λ m. if m then Some 0 else option_map (λ i. i + 1) rest) no)
+        (free_at inside is got ∙ ap (λ m. if m then Some 0 else option_map (λ i. i + 1) rest) differs)
         ∙ moved_behind p rest)
 
     -- or it is one
     pub free_found : p < length xs → x ≡ get_or xs p x → slice_get taken p ≡ Some t →
         is_match within a (made_mark x) t ≡ true → (found : Option ℕ) →
         found ≡ option_map (λ i. i + p) (first_free within a (made_marks (drop p xs)) (drop p taken)) → Some p ≡ found
-    free_found inside is got yes found so_far =
+    free_found inside is got near found so_far =
         let rest : Option ℕ = first_free within a (made_marks (drop (p + 1) xs)) (drop (p + 1) taken) in
         let same : p ≡ 0 + p = omega arith in
         ap Some same
         ∙ sym
         (so_far
         ∙ ap (option_map (λ i. i + p))
-        (free_at inside is got ∙ ap (λ m. if m then Some 0 else option_map (λ i. i + 1) rest) yes))
+        (free_at inside is got ∙ ap (λ m. if m then Some 0 else option_map (λ i. i + 1) rest) near))
 
   pub free_end : {A : Type 0} (xs : List (PlacedMark A)) (taken : List Bool) (p : ℕ) → length xs ≤ p → (found : Option ℕ) →
       found ≡ option_map (λ i. i + p) (first_free within a (made_marks (drop p xs)) (drop p taken)) → None ≡ found

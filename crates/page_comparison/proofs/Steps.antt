@@ -18,10 +18,8 @@ module _ {A : Type 0} where
   pub rest_marks : (xs : List (PlacedMark A)) (i : ℕ) → made_marks (take (length xs - i) (drop i xs)) ≡ drop i (made_marks xs)
   rest_marks xs i = ap made_marks (take_rest xs i) ∙ sym (drop-map made_mark i xs)
 
-  pub front_marks : (xs : List (PlacedMark A)) (i : ℕ) → made_marks (take (i - 0) xs) ≡ take i (made_marks xs)
-  front_marks xs i =
-      let same : i - 0 ≡ i = omega arith in
-      ap (λ n. made_marks (take n xs)) same ∙ sym (take-map made_mark i xs)
+  pub front_marks : (xs : List (PlacedMark A)) (i : ℕ) → made_marks (take i xs) ≡ take i (made_marks xs)
+  front_marks xs i = sym (take-map made_mark i xs)
 
   pub few_marks : (xs : List (PlacedMark A)) → length (made_marks xs) ≡ length xs
   few_marks xs = length-map xs made_mark

@@ -17,6 +17,15 @@ use Rattle.page_comparison.proofs.Steps.{few_marks, front_marks, rest_marks}
 
 -- ---- a turn behind another
 
+-- a turn over near marks tells nothing
+pub turn_passed : (setting : Setting) (at : Standing) (old new : List MadeMark) (turn : Turn) (k : Kept) → turn.same ≡ true →
+    k ≡ kept_all (turn_told setting at old new turn) k
+turn_passed setting at old new turn k same =
+    let left : List PageDifference =
+    left_out (next_place setting.old_end (drop turn.old old)) (next_place setting.new_end (drop turn.new new)) at
+    (take turn.old old) (take turn.new new) in
+    ap (λ (t : Bool). kept_all (if t then [] else left) k) (sym same)
+
 module _ {A : Type 0} (setting : Setting) where
   pub turn_more : (turns i : ℕ) → i < turns → (xs ys : List (PlacedMark A)) (turn : Turn) (at at' : Standing) (k k' k0 : Kept) →
       turn ≡ turn_of setting.within (made_marks xs) (made_marks ys) →
@@ -65,22 +74,13 @@ module _ {A : Type 0} (setting : Setting) where
       λ j. kept_all
       (in_order setting (sym (few_marks xs) j + sym (few_marks ys) j) (at_is j) (made_marks xs) (made_marks ys)) k
 
-  -- a turn over near marks tells nothing
-  pub turn_passed : (at : Standing) (old new : List MadeMark) (turn : Turn) (k : Kept) → turn.same ≡ true →
-      k ≡ kept_all (turn_told setting at old new turn) k
-  turn_passed at old new turn k same =
-      let left : List PageDifference =
-      left_out (next_place setting.old_end (drop turn.old old)) (next_place setting.new_end (drop turn.new new)) at
-      (take turn.old old) (take turn.new new) in
-      ap (λ (t : Bool). kept_all (if t then [] else left) k) (sym same)
-
   -- what a turn leaves out
   pub turn_left : (at : Standing) (xs ys : List (PlacedMark A)) (turn : Turn) (old_place new_place : ℕ) (k k' : Kept) →
       turn.same ≡ false →
       old_place ≡ next_place setting.old_end (made_marks (take (length xs - turn.old) (drop turn.old xs))) →
       new_place ≡ next_place setting.new_end (made_marks (take (length ys - turn.new) (drop turn.new ys))) →
       k' ≡ kept_all
-      (left_out old_place new_place at (made_marks (take (turn.old - 0) xs)) (made_marks (take (turn.new - 0) ys))) k →
+      (left_out old_place new_place at (made_marks (take turn.old xs)) (made_marks (take turn.new ys))) k →
       k' ≡ kept_all (turn_told setting at (made_marks xs) (made_marks ys) turn) k
   turn_left at xs ys turn old_place new_place k k' other old_is new_is k_is =
       let old : List MadeMark = made_marks xs in

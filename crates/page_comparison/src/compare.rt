@@ -128,8 +128,16 @@ fn compare_all<S: Source, T: Source, A: Allocator + Copy, P: Allocator>(
         if are_over(first, second) {
             return Ok(listing.into_comparison(counts));
         }
-        let one = read_page(alloc, page_of(Which::Old, page), old_job, first)?;
-        let other = read_page(alloc, page_of(Which::New, page), new_job, second)?;
+        let old_page = PageOf {
+            which: Which::Old,
+            page,
+        };
+        let new_page = PageOf {
+            which: Which::New,
+            page,
+        };
+        let one = read_page(alloc, old_page, old_job, first)?;
+        let other = read_page(alloc, new_page, new_job, second)?;
         counts = count_page(counts, &one);
         let pair = PagePair {
             number: page,
@@ -154,20 +162,18 @@ pub fn differences_of<A: Allocator + Copy>(
         differences.items ≡ pair_differences nearness (made_pair pair.now)) }
 {
     if pair.old.marks.len() > MOST_MARKS {
-        return Err(PagesError::TooManyMarks(page_of(Which::Old, pair.number)));
+        return Err(too_many_marks(Which::Old, pair.number));
     }
     if pair.new.marks.len() > MOST_MARKS {
-        return Err(PagesError::TooManyMarks(page_of(Which::New, pair.number)));
+        return Err(too_many_marks(Which::New, pair.number));
     }
     let mut listing = Listing::new(alloc, ALL);
     tell_page(alloc, nearness, pair, &mut listing)?;
     Ok(listing.into_listed())
 }
 
-fn page_of(which: Which, page: u64) -> PageOf
-    ensures { result ≡ record { which = which; page = page } }
-{
-    PageOf { which, page }
+fn too_many_marks(which: Which, page: u64) -> PagesError {
+    PagesError::TooManyMarks(PageOf { which, page })
 }
 
 /// Whether both jobs are over.

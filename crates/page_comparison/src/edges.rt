@@ -1,6 +1,6 @@
 //! The boxes of marks, and whether they overlap.
 
-ghost use Rattle.std.specs.Prelude.{◌≡◌, ◌*◌, ◌<◌, ◌^◌, length};
+ghost use Rattle.std.specs.Prelude.{◌≡◌, ◌*◌, ◌<◌, ◌^◌, ◌&&◌, ◌+ℤ◌, ◌-ℤ◌, int_lt, length, pos};
 ghost use Rattle.page_env.specs.Mark.{pixel_of};
 ghost use Rattle.page_comparison.specs.Marks.{
   edges_of,
@@ -12,7 +12,6 @@ ghost use Rattle.page_comparison.specs.Marks.{
   overlap,
 };
 ghost use Rattle.sinks.specs.Owned.{row_of_owned, shape_of_owned};
-ghost use Rattle.tick_length.specs.Length.{IsInRange};
 
 use page_env::{Bounds, PenLine, Resolution};
 use sinks::{OwnedMark, OwnedRow};
@@ -53,8 +52,7 @@ fn edges_of_box(bounds: &Bounds) -> Edges
 
 /// Where an edge lies, in ticks.
 fn ticks_of(edge: Length) -> i128
-    ensures value { result ≡ edge }
-    ensures in_range { IsInRange edge }
+    ensures { result ≡ edge }
 {
     i128::from(edge.ticks())
 }
@@ -64,14 +62,35 @@ fn edges_of_row<A: Allocator>(row: &OwnedRow<A>) -> Edges
     ensures { result ≡ edges_of_row (row_of_owned row.now) }
 {
     let width = width_of(row.bytes.as_slice(), row.resolution);
-    let left = i128::from(row.x.ticks());
-    let top = ticks_of(row.y);
+    let height = u64::from(pixel_of(row.resolution));
     Edges {
-        left,
-        top,
-        right: left + width as i128,
-        bottom: top + i128::from(pixel_of(row.resolution)),
+        left: i128::from(row.x.ticks()),
+        top: ticks_of(row.y),
+        right: right_of(row.x.ticks(), width),
+        bottom: more(row.y.ticks(), height),
     }
+}
+
+/// Where a row of this width ends.
+fn right_of(left: i64, width: u128) -> i128
+    requires { width < 2 ^ 100 }
+    ensures { result ≡ left +ℤ pos width }
+{
+    i128::from(left) + width as i128
+}
+
+/// So much further.
+fn more(place: i64, by: u64) -> i128
+    ensures { result ≡ place +ℤ pos by }
+{
+    i128::from(place) + i128::from(by)
+}
+
+/// So much less far.
+fn less(place: i64, by: u64) -> i128
+    ensures { result ≡ place -ℤ pos by }
+{
+    i128::from(place) - i128::from(by)
 }
 
 /// How far bytes of a row go.
@@ -94,14 +113,14 @@ fn width_of(bytes: &[u8], resolution: Resolution) -> u128
 fn edges_of_line(line: &PenLine) -> Edges
     ensures { result ≡ edges_of_line line.now }
 {
-    let half = i128::from(line.width.ticks().unsigned_abs() / 2);
+    let half = line.width.ticks().unsigned_abs() / 2;
     let (x0, y0) = (line.x0.ticks(), line.y0.ticks());
     let (x1, y1) = (line.x1.ticks(), line.y1.ticks());
     Edges {
-        left: i128::from(lesser(x0, x1)) - half,
-        top: i128::from(lesser(y0, y1)) - half,
-        right: i128::from(greater(x0, x1)) + half,
-        bottom: i128::from(greater(y0, y1)) + half,
+        left: less(lesser(x0, x1), half),
+        top: less(lesser(y0, y1), half),
+        right: more(greater(x0, x1), half),
+        bottom: more(greater(y0, y1), half),
     }
 }
 
@@ -135,8 +154,13 @@ fn pixel_of(resolution: Resolution) -> u32
 pub(crate) fn overlap(one: &Edges, other: &Edges) -> bool
     ensures { result ≡ overlap one.now other.now }
 {
-    one.left < other.right
-        && other.left < one.right
-        && one.top < other.bottom
-        && other.top < one.bottom
+    is_across(one, other) && one.top < other.bottom && other.top < one.bottom
+}
+
+/// Whether two boxes overlap from left to right.
+fn is_across(one: &Edges, other: &Edges) -> bool
+    ensures { result ≡ int_lt one.now.left other.now.right
+        && int_lt other.now.left one.now.right }
+{
+    one.left < other.right && other.left < one.right
 }

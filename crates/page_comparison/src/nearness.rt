@@ -12,6 +12,7 @@ use device_profile::is_same_request;
 use page_env::{Area, Bounds, Fill, Glyph, PenLine, Resolution};
 use sinks::{OwnedMark, OwnedRow};
 use std::alloc::Allocator;
+use tick_length::Length;
 
 /// Whether two marks are the same but for their edges, which lie within a distance.
 pub(crate) fn is_near<A: Allocator>(one: &OwnedMark<A>, other: &OwnedMark<A>, within: u64) -> bool
@@ -40,10 +41,17 @@ fn is_near_glyph(one: &Glyph, other: &Glyph, within: u64) -> bool
         && is_near within one.now.y other.now.y
         && is_near_box within one.now.bounds other.now.bounds }
 {
-    one.code == other.code
-        && is_same_request(&one.request, &other.request)
-        && is_near_place(one.y.ticks(), other.y.ticks(), within)
+    is_same_character(one, other)
+        && is_near_length(one.y, other.y, within)
         && is_near_box(&one.bounds, &other.bounds, within)
+}
+
+/// Whether two characters have the same code and ask for the same.
+fn is_same_character(one: &Glyph, other: &Glyph) -> bool
+    ensures { result ≡ (one.now.code == other.now.code)
+        && is_same_request one.now.request other.now.request }
+{
+    one.code == other.code && is_same_request(&one.request, &other.request)
 }
 
 fn is_near_row<A: Allocator>(one: &OwnedRow<A>, other: &OwnedRow<A>, within: u64) -> bool
@@ -52,10 +60,19 @@ fn is_near_row<A: Allocator>(one: &OwnedRow<A>, other: &OwnedRow<A>, within: u64
         && are_same_bytes a.bytes b.bytes
         && is_near within a.x b.x && is_near within a.y b.y }
 {
+    has_same_bits(one, other)
+        && is_near_place(one.x.ticks(), other.x.ticks(), within)
+        && is_near_length(one.y, other.y, within)
+}
+
+/// Whether two rows have the same bytes, and as many of their pixels an inch.
+fn has_same_bits<A: Allocator>(one: &OwnedRow<A>, other: &OwnedRow<A>) -> bool
+    ensures { let a = row_of_owned one.now in let b = row_of_owned other.now in
+        result ≡ (pixels_per_inch a.resolution == pixels_per_inch b.resolution)
+        && are_same_bytes a.bytes b.bytes }
+{
     is_same_resolution(one.resolution, other.resolution)
         && are_same_bytes(one.bytes.as_slice(), other.bytes.as_slice())
-        && is_near_place(one.x.ticks(), other.x.ticks(), within)
-        && is_near_place(one.y.ticks(), other.y.ticks(), within)
 }
 
 fn is_near_line(one: &PenLine, other: &PenLine, within: u64) -> bool
@@ -63,21 +80,48 @@ fn is_near_line(one: &PenLine, other: &PenLine, within: u64) -> bool
         && is_near within one.now.x0 other.now.x0 && is_near within one.now.y0 other.now.y0
         && is_near within one.now.x1 other.now.x1 && is_near within one.now.y1 other.now.y1 }
 {
-    one.width.ticks() == other.width.ticks()
-        && is_near_place(one.x0.ticks(), other.x0.ticks(), within)
-        && is_near_place(one.y0.ticks(), other.y0.ticks(), within)
-        && is_near_place(one.x1.ticks(), other.x1.ticks(), within)
-        && is_near_place(one.y1.ticks(), other.y1.ticks(), within)
+    begins_near(one, other, within)
+        && is_near_length(one.x1, other.x1, within)
+        && is_near_length(one.y1, other.y1, within)
+}
+
+/// Whether two lines are as wide, and begin within a distance.
+fn begins_near(one: &PenLine, other: &PenLine, within: u64) -> bool
+    ensures { result ≡ int_eq one.now.width other.now.width
+        && is_near within one.now.x0 other.now.x0 && is_near within one.now.y0 other.now.y0 }
+{
+    is_same_length(one.width, other.width)
+        && is_near_length(one.x0, other.x0, within)
+        && is_near_length(one.y0, other.y0, within)
 }
 
 /// Whether each edge lies within a distance of that of another box.
 fn is_near_box(one: &Bounds, other: &Bounds, within: u64) -> bool
     ensures { result ≡ is_near_box within one.now other.now }
 {
-    is_near_place(one.left.ticks(), other.left.ticks(), within)
-        && is_near_place(one.top.ticks(), other.top.ticks(), within)
-        && is_near_place(one.right.ticks(), other.right.ticks(), within)
-        && is_near_place(one.bottom.ticks(), other.bottom.ticks(), within)
+    is_near_corner(one, other, within)
+        && is_near_length(one.right, other.right, within)
+        && is_near_length(one.bottom, other.bottom, within)
+}
+
+/// The same of the left and the upper edge.
+fn is_near_corner(one: &Bounds, other: &Bounds, within: u64) -> bool
+    ensures { result ≡ is_near within one.now.left other.now.left
+        && is_near within one.now.top other.now.top }
+{
+    is_near_length(one.left, other.left, within) && is_near_length(one.top, other.top, within)
+}
+
+fn is_same_length(one: Length, other: Length) -> bool
+    ensures { result ≡ int_eq one other }
+{
+    one.ticks() == other.ticks()
+}
+
+fn is_near_length(one: Length, other: Length, within: u64) -> bool
+    ensures { result ≡ is_near within one other }
+{
+    is_near_place(one.ticks(), other.ticks(), within)
 }
 
 /// Whether two places, in ticks, lie within a distance.

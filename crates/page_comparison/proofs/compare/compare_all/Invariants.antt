@@ -9,7 +9,7 @@ invariant-loop-page g l = record {
   old_number : l.first.run.number ≡ l.initial.first.run.number;
   new_number : l.second.run.number ≡ l.initial.second.run.number;
   idle : l.listing.differs ≡ false;
-  goes : GoesOn l.nearness l.most (g.S.Source.state l.initial.old_job) (g.S.Source.state l.old_job)
+  goes : GoesOn l.nearness l.fn.most (g.S.Source.state l.initial.old_job) (g.S.Source.state l.old_job)
       (g.T.Source.state l.initial.new_job) (g.T.Source.state l.new_job) l.initial.first l.first l.initial.second l.second l.page
       l.listing l.counts;
 }

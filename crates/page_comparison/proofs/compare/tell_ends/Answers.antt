@@ -24,11 +24,13 @@ returns g c =
     let other = made_page c.args.other.now in
     let told : PageDifference =
     difference_at (stand_at c.args.page (length one.marks + 1) (length other.marks + 1)) one.place other.place PageEnds in
+    let one_long : c.len.result ≡ length one.marks =
+    c.len.ensures ∙ c.args.one.now.marks.ok.0 ∙ sym (few_marks c.args.one.now.marks.items) in
+    let other_long : c.len-2.result ≡ length other.marks =
+    c.len-2.ensures ∙ c.args.other.now.marks.ok.0 ∙ sym (few_marks c.args.other.now.marks.items) in
     let is : c.difference.result ≡ told =
     c.difference.ensures
-    ∙ (λ i. difference_at
-    (stand_at c.args.page (sym (few_marks c.args.one.now.marks.items) i + 1) (sym (few_marks c.args.other.now.marks.items) i + 1))
-    one.place other.place PageEnds) in
+    ∙ (λ i. difference_at (stand_at c.args.page (one_long i + 1) (other_long i + 1)) one.place other.place PageEnds) in
     on_ok_weaker c.tell.result
     (λ (kept : c.tell.new.self ≡ kept_with c.difference.result c.args.listing.now).
     kept

@@ -4,8 +4,8 @@ use Rattle.page_comparison.specs.Told.{next_place}
 use Rattle.page_comparison.proofs.Turns.{first_of, no_marks}
 use Rattle.page_comparison.proofs.in_order.next_place.Goals as goal
 
-pub returns-in-len0 : goal.returns-in-len0
-returns-in-len0 g c =
+pub returns-in-empty : goal.returns-in-empty
+returns-in-empty g c =
     let none : length c.args.marks.now ≡ 0 = omega arith in
     ap (λ (l : List MadeMark). next_place c.args.end l) (sym (no_marks c.args.marks.now none))
 

@@ -1,4 +1,4 @@
-use Rattle.std.proofs.Common.{◌≡◌, ◌-◌, take}
+use Rattle.std.proofs.Common.{◌≡◌, take}
 use Rattle.std.proofs.lemmas.Result.{on_ok_weaker}
 use Rattle.page_comparison.specs.Kept.{kept_all}
 use Rattle.page_comparison.specs.Pages.{made_marks}
@@ -19,8 +19,8 @@ returns g c =
     (λ (told :
     c.tell_left_out.new.listing
     ≡ kept_all
-    (left_out old_place new_place c.args.at (made_marks (take (c.args.turn.old - 0) c.args.old.now))
-    (made_marks (take (c.args.turn.new - 0) c.args.new.now))) c.args.listing.now).
+    (left_out old_place new_place c.args.at (made_marks (take c.args.turn.old c.args.old.now))
+    (made_marks (take c.args.turn.new c.args.new.now))) c.args.listing.now).
     turn_left c.args.setting.now c.args.at c.args.old.now c.args.new.now c.args.turn old_place new_place c.args.listing.now
     c.tell_left_out.new.listing c.if-turn.false c.next_place-old_place.ensures c.next_place-new_place.ensures told)
     c.tell_left_out.ensures

@@ -19,37 +19,37 @@ pub loop-preserved : goal.loop-preserved
 loop-preserved g c =
     let so_far = c.loop.invariant in
     let now = g.S.Source.state c.loop.source in
-    let now' = g.S.Source.state c.take_next-came.new.source in
+    let now' = g.S.Source.state c.take_next.new.source in
     let page = made_page c.loop.page in
-    let page' = made_page c.take_next-came.new.page in
+    let page' = made_page c.take_next.new.page in
     let took =
-    subst (λ (came : Option Bool). TakesNext now now' c.loop.job c.take_next-came.new.job page page' came) c.in-Some-true.is
+    subst (λ (came : Option Bool). TakesNext now now' c.loop.job c.take_next.new.job page page' came) c.in-Some-true.is
     c.in_ok-came.ensures.taken in
     record {
       working = c.in_ok-came.ensures.failed;
-      number = c.take_next-came.ensures.number ∙ so_far.number;
+      number = c.take_next.ensures.number ∙ so_far.number;
       few = omega (arith, c.in_ok-came.ensures.few, so_far.few);
       collects = λ printer panel first taken h.
-          collects_more printer panel first now now' taken c.loop.job c.take_next-came.new.job page page'
+          collects_more printer panel first now now' taken c.loop.job c.take_next.new.job page page'
           (so_far.collects printer panel first taken h) took;
     }
 
 pub returns-in-None-clause-read : goal.returns-in-None-clause-read
 returns-in-None-clause-read g c = λ printer panel first taken h.
     let now = g.S.Source.state c.loop.source in
-    let now' = g.S.Source.state c.take_next-came.new.source in
+    let now' = g.S.Source.state c.take_next.new.source in
     let page = made_page c.loop.page in
-    let page' = made_page c.take_next-came.new.page in
-    read_over printer panel first now now' taken c.loop.job c.take_next-came.new.job page page'
+    let page' = made_page c.take_next.new.page in
+    read_over printer panel first now now' taken c.loop.job c.take_next.new.job page page'
     (c.loop.invariant.collects printer panel first taken h) c.args.job.now c.requires.unended
-    (subst (λ (came : Option Bool). TakesNext now now' c.loop.job c.take_next-came.new.job page page' came) c.in-None.is
+    (subst (λ (came : Option Bool). TakesNext now now' c.loop.job c.take_next.new.job page page' came) c.in-None.is
     c.in_ok-came.ensures.taken)
 
 pub returns-in-None-clause-few : goal.returns-in-None-clause-few
 returns-in-None-clause-few g c = omega (arith, c.in_ok-came.ensures.few, c.loop.invariant.few, c.loop-test.true)
 
 pub returns-in-None-clause-number : goal.returns-in-None-clause-number
-returns-in-None-clause-number g c = c.take_next-came.ensures.number ∙ c.loop.invariant.number
+returns-in-None-clause-number g c = c.take_next.ensures.number ∙ c.loop.invariant.number
 
 pub returns-in-None-clause-failed : goal.returns-in-None-clause-failed
 returns-in-None-clause-failed g c = c.in_ok-came.ensures.failed
@@ -57,19 +57,19 @@ returns-in-None-clause-failed g c = c.in_ok-came.ensures.failed
 pub returns-in-Some-false-clause-read : goal.returns-in-Some-false-clause-read
 returns-in-Some-false-clause-read g c = λ printer panel first taken h.
     let now = g.S.Source.state c.loop.source in
-    let now' = g.S.Source.state c.take_next-came.new.source in
+    let now' = g.S.Source.state c.take_next.new.source in
     let page = made_page c.loop.page in
-    let page' = made_page c.take_next-came.new.page in
-    read_ended printer panel first now now' taken c.loop.job c.take_next-came.new.job page page'
+    let page' = made_page c.take_next.new.page in
+    read_ended printer panel first now now' taken c.loop.job c.take_next.new.job page page'
     (c.loop.invariant.collects printer panel first taken h) c.args.job.now c.requires.unended
-    (subst (λ (came : Option Bool). TakesNext now now' c.loop.job c.take_next-came.new.job page page' came) c.in-Some-false.is
+    (subst (λ (came : Option Bool). TakesNext now now' c.loop.job c.take_next.new.job page page' came) c.in-Some-false.is
     c.in_ok-came.ensures.taken)
 
 pub returns-in-Some-false-clause-few : goal.returns-in-Some-false-clause-few
 returns-in-Some-false-clause-few g c = omega (arith, c.in_ok-came.ensures.few, c.loop.invariant.few, c.loop-test.true)
 
 pub returns-in-Some-false-clause-number : goal.returns-in-Some-false-clause-number
-returns-in-Some-false-clause-number g c = c.take_next-came.ensures.number ∙ c.loop.invariant.number
+returns-in-Some-false-clause-number g c = c.take_next.ensures.number ∙ c.loop.invariant.number
 
 pub returns-in-Some-false-clause-failed : goal.returns-in-Some-false-clause-failed
 returns-in-Some-false-clause-failed g c = c.in_ok-came.ensures.failed
@@ -85,4 +85,4 @@ returns-in_err-came-clause-err g c =
     rw (same.1, same.2) c.in_err-came.ensures.err
 
 pub returns-in_err-came-clause-number : goal.returns-in_err-came-clause-number
-returns-in_err-came-clause-number g c = c.take_next-came.ensures.number ∙ c.loop.invariant.number
+returns-in_err-came-clause-number g c = c.take_next.ensures.number ∙ c.loop.invariant.number

@@ -21,26 +21,26 @@ returns-in-None-clause-taken g c =
       c.end_at.ensures ∙ ap (λ n. page_at_end n (made_page c.args.page.now)) c.place-place.ensures,
     )
 
-pub returns-in-Some-clause-taken : goal.returns-in-Some-clause-taken
-returns-in-Some-clause-taken g c =
+pub returns-in_ok-goes_on-in-Some-clause-taken : goal.returns-in_ok-goes_on-in-Some-clause-taken
+returns-in_ok-goes_on-in-Some-clause-taken g c =
     let event = event_of c.in-Some.event.now in
     let behind =
     passed c.args.job.now c.pass.new.self c.place-place.result event c.place-place.ensures c.in-Some.ensures c.pass.ensures in (
       record { place = c.place-place.result; event = event },
       behind.0,
       behind.1,
-      c.in_ok-goes_on.ensures.goes_on,
-      c.in_ok-goes_on.ensures.page,
+      c.in_ok-goes_on-in-Some.ensures.goes_on,
+      c.in_ok-goes_on-in-Some.ensures.page,
     )
 
-pub returns-in-Some-clause-number : goal.returns-in-Some-clause-number
-returns-in-Some-clause-number g c = ap (λ (f : Following). f.run.number) c.pass.ensures
+pub returns-in_ok-goes_on-in-Some-clause-number : goal.returns-in_ok-goes_on-in-Some-clause-number
+returns-in_ok-goes_on-in-Some-clause-number g c = ap (λ (f : Following). f.run.number) c.pass.ensures
 
 pub returns-in-None-clause-few : goal.returns-in-None-clause-few
 returns-in-None-clause-few g c =
     few_at_end c.place-place.result (made_page c.args.page.now) (made_page c.end_at.new.self) c.end_at.ensures
 
-pub returns-in-Some-clause-few : goal.returns-in-Some-clause-few
-returns-in-Some-clause-few g c =
+pub returns-in_ok-goes_on-in-Some-clause-few : goal.returns-in_ok-goes_on-in-Some-clause-few
+returns-in_ok-goes_on-in-Some-clause-few g c =
     few_more (record { place = c.place-place.result; event = event_of c.in-Some.event.now }) (made_page c.args.page.now)
-    (made_page c.take-goes_on.new.self) c.in_ok-goes_on.ensures.page
+    (made_page c.take.new.self) c.in_ok-goes_on-in-Some.ensures.page

@@ -3,8 +3,8 @@ use Rattle.page_comparison.specs.InOrder.{leaving}
 use Rattle.page_comparison.proofs.Turns.{turn_heads, turn_no_new}
 use Rattle.page_comparison.proofs.turn.turn_from.Goals as goal
 
-pub returns-in-len0-clause-turn : goal.returns-in-len0-clause-turn
-returns-in-len0-clause-turn g c =
+pub returns-in-empty-clause-turn : goal.returns-in-empty-clause-turn
+returns-in-empty-clause-turn g c =
     let none : length c.args.new.now ≡ 0 = omega arith in
     c.leaving.ensures
     ∙ (ap (leaving (length c.args.old.now)) (sym none) ∙ turn_no_new c.args.within c.args.old.now c.args.new.now none)

@@ -1,6 +1,5 @@
-use Rattle.std.proofs.Common.{◌≡◌, ◌+◌, false, subst}
+use Rattle.std.proofs.Common.{◌≡◌, false, subst}
 use Rattle.std.specs.List.{list_any}
-use Rattle.std.proofs.lemmas.Bool.{leb-true}
 use Rattle.page_comparison.specs.AnyOrder.{Matching, is_crossed}
 use Rattle.page_comparison.proofs.Free.{none_crossed}
 use Rattle.page_comparison.proofs.bag.Bag.is_crossed.Goals as goal
@@ -11,4 +10,4 @@ returns-then-last g c =
     let edges = c.args.edges.now in
     subst (λ (m : Matching). false ≡ list_any (is_crossed place edges) m.earlier) c.self.view_is
     (none_crossed c.self.inside.beyond place edges c.self.inside.earlier.items
-    (leb-true c.self.inside.beyond (place + 1) c.if-last.true) c.self.invariant.2)
+    c.if-last.true c.self.invariant.2)

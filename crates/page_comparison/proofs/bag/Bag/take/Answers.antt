@@ -3,8 +3,8 @@ use Rattle.page_comparison.specs.AnyOrder.{Matching}
 use Rattle.page_comparison.proofs.Free.{before_more, front_marked}
 use Rattle.page_comparison.proofs.bag.Bag.take.Goals as goal
 
-pub invariant_of-self : goal.invariant_of-self
-invariant_of-self g c =
+pub invariant_of-self-2 : goal.invariant_of-self-2
+invariant_of-self-2 g c =
     let l = c.self.inside in
     let before = c.self.invariant in
     let here : c.args.place < length l.taken.items =
