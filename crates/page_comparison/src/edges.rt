@@ -86,13 +86,6 @@ fn more(place: i64, by: u64) -> i128
     i128::from(place) + i128::from(by)
 }
 
-/// So much less far.
-fn less(place: i64, by: u64) -> i128
-    ensures { result ≡ place -ℤ pos by }
-{
-    i128::from(place) - i128::from(by)
-}
-
 /// How far bytes of a row go.
 fn width_of(bytes: &[u8], resolution: Resolution) -> u128
     ensures value { result ≡ length bytes.now * 8 * pixel_of resolution }
@@ -116,12 +109,38 @@ fn edges_of_line(line: &PenLine) -> Edges
     let half = line.width.ticks().unsigned_abs() / 2;
     let (x0, y0) = (line.x0.ticks(), line.y0.ticks());
     let (x1, y1) = (line.x1.ticks(), line.y1.ticks());
+    edges_within(x0, y0, x1, y1, half)
+}
+
+/// The box of two places, widened by so much.
+fn edges_within(x0: i64, y0: i64, x1: i64, y1: i64, by: u64) -> Edges
+    ensures { result ≡ record {
+      left = lesser x0 x1 -ℤ pos by;
+      top = lesser y0 y1 -ℤ pos by;
+      right = greater x0 x1 +ℤ pos by;
+      bottom = greater y0 y1 +ℤ pos by;
+    } }
+{
     Edges {
-        left: less(lesser(x0, x1), half),
-        top: less(lesser(y0, y1), half),
-        right: more(greater(x0, x1), half),
-        bottom: more(greater(y0, y1), half),
+        left: below(x0, x1, by),
+        top: below(y0, y1, by),
+        right: beyond(x0, x1, by),
+        bottom: beyond(y0, y1, by),
     }
+}
+
+/// So much less far than the nearer place.
+fn below(one: i64, other: i64, by: u64) -> i128
+    ensures { result ≡ lesser one other -ℤ pos by }
+{
+    i128::from(lesser(one, other)) - i128::from(by)
+}
+
+/// So much further than the further place.
+fn beyond(one: i64, other: i64, by: u64) -> i128
+    ensures { result ≡ greater one other +ℤ pos by }
+{
+    more(greater(one, other), by)
 }
 
 fn lesser(one: i64, other: i64) -> i64

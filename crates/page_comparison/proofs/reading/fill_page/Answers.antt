@@ -1,4 +1,4 @@
-use Rattle.std.proofs.Common.{◌≤◌, Bool, Option, arith, length, refl, subst, sym, true, ◌∙◌}
+use Rattle.std.proofs.Common.{◌≡◌, ◌≤◌, Bool, Option, Some, ap, arith, false, length, refl, subst, sym, true, ◌∙◌}
 use Rattle.std.proofs.lemmas.Result.{err_from_is_err_and}
 use Rattle.page_comparison.specs.Pages.{MadePage, made_page}
 use Rattle.page_comparison.specs.Reading.{TakesNext}
@@ -22,8 +22,10 @@ loop-preserved g c =
     let now' = g.S.Source.state c.take_next.new.source in
     let page = made_page c.loop.page in
     let page' = made_page c.take_next.new.page in
+    let goes_on : c.in-Some-true.field-0 ≡ true = cc in
     let took =
-    subst (λ (came : Option Bool). TakesNext now now' c.loop.job c.take_next.new.job page page' came) c.in-Some-true.is
+    subst (λ (came : Option Bool). TakesNext now now' c.loop.job c.take_next.new.job page page' came)
+    (c.in-Some-true.is ∙ ap Some goes_on)
     c.in_ok-came.ensures.taken in
     record {
       working = c.in_ok-came.ensures.failed;
@@ -60,9 +62,11 @@ returns-in-Some-false-clause-read g c = λ printer panel first taken h.
     let now' = g.S.Source.state c.take_next.new.source in
     let page = made_page c.loop.page in
     let page' = made_page c.take_next.new.page in
+    let ends : c.in-Some-false.field-0 ≡ false = cc in
     read_ended printer panel first now now' taken c.loop.job c.take_next.new.job page page'
     (c.loop.invariant.collects printer panel first taken h) c.args.job.now c.requires.unended
-    (subst (λ (came : Option Bool). TakesNext now now' c.loop.job c.take_next.new.job page page' came) c.in-Some-false.is
+    (subst (λ (came : Option Bool). TakesNext now now' c.loop.job c.take_next.new.job page page' came)
+    (c.in-Some-false.is ∙ ap Some ends)
     c.in_ok-came.ensures.taken)
 
 pub returns-in-Some-false-clause-few : goal.returns-in-Some-false-clause-few
