@@ -140,4 +140,5 @@ returns-in_err-compare_page-clause-new_read g c =
 
 pub returns-in_err-compare_page-clause-err : goal.returns-in_err-compare_page-clause-err
 returns-in_err-compare_page-clause-err g c =
-    let same = err_from_is_err_and c.from_residual-in_err-compare_page.result c.from_residual-in_err-compare_page.ensures.1 in rw (same.1, same.2) tt
+    let same = err_from_is_err_and c.from_residual-in_err-compare_page.result c.from_residual-in_err-compare_page.ensures.1 in
+    rw (same.1, same.2) tt
