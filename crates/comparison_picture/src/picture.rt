@@ -1,5 +1,6 @@
 //! The SVG of a page on which two jobs differ, with the list of what differs beside it.
 ghost use Rattle.std.specs.Prelude.{◌≡◌, ◌++◌, OnOk};
+ghost use Rattle.shown_bytes.specs.Lengths.{signed_hundredths};
 ghost use Rattle.comparison_picture.specs.DrawnPages.{compared_page};
 ghost use Rattle.comparison_picture.specs.Picture.{
   difference_picture,
@@ -138,7 +139,7 @@ fn push_list_start<A: Allocator>(
     ensures { OnOk result (text.new.items ≡ text.old.items ++ list_start paper.now number) }
 {
     text.extend_from_slice(b"<text transform=\"translate(")?;
-    push_with_signed_hundredths(text, pixels(paper.page_width, 0))?;
+    push_list_left(text, paper)?;
     text.extend_from_slice(
         b")\" y=\"8\" font-family=\"sans-serif\" font-size=\"12\">\
         <tspan x=\"10\" dy=\"17\" font-weight=\"bold\">Page ",
@@ -148,6 +149,14 @@ fn push_list_start<A: Allocator>(
         b"</tspan><tspan class=\"old\" x=\"150\">OLD</tspan>\
         <tspan class=\"new\" x=\"310\">NEW</tspan>\n",
     )
+}
+
+/// Appends how far to the right the list begins.
+fn push_list_left<A: Allocator>(text: &mut Vec<u8, A>, paper: &Geometry) -> Result<(), AllocError>
+    ensures { OnOk result (text.new.items ≡ text.old.items
+        ++ signed_hundredths (pixels paper.now.page_width 0)) }
+{
+    push_with_signed_hundredths(text, pixels(paper.page_width, 0))
 }
 
 /// Appends the list.
