@@ -1,4 +1,4 @@
-use Rattle.std.proofs.Common.{◌==◌, ◌++◌, Bool, List, [], ap, codes, decimal, if◌then◌else◌, sym}
+use Rattle.std.proofs.Common.{◌++◌, Bool, [], ap, codes, decimal, if◌then◌else◌}
 use Rattle.std.proofs.lemmas.Bool.{ne_eqb}
 use Rattle.comparison_picture.specs.Document.{undrawn_part}
 use Rattle.comparison_picture.proofs.Appending.{three_appended}
