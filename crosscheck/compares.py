@@ -9,8 +9,9 @@ Every third pair is mostly text (`text_pairs.py`), lines of which both jobs may 
 What is due is found here by the lines that the program's own `pages` writes of both jobs on each
 printer, one behind another; the places of the items are those of `lexer.py` and of the machine of
 `machine.py`, whose lines have to be the same. Of `plain` of a job that fails nowhere it has to be
-SAME, and so of `pin`. Each pair is told as a line and as an object. Prints each difference and at
-last `N compared, M differ`. The exit status is 0 where M is 0, else 1.
+SAME, and so of `pin`. Each pair is told as a line and as an object, and once more in a manner that
+is chosen for it: in any order, within a length, with all differences, or as a golden job. Prints
+each difference and at last `N compared, M differ`. The exit status is 0 where M is 0, else 1.
 """
 
 import json
@@ -28,6 +29,8 @@ import oracle                                                      # noqa: E402
 from items import FRAME, canon                                     # noqa: E402
 from lexer import lex                                              # noqa: E402
 from machine import Machine                                        # noqa: E402
+from page_differences import (Made, Manner, TICKS_PER_7200TH, change_of, differences,  # noqa: E402
+                              is_end, pages_of)
 from pdf_jobs import PROFILE as RICH_PROFILE                       # noqa: E402
 from printer_profile import Profile                                # noqa: E402
 from state import Finding                                          # noqa: E402
@@ -35,14 +38,32 @@ from text_pairs import text_edit, text_job                         # noqa: E402
 
 SECONDS = 60
 MOST_PRINTERS = 3
-# Of a line of `pages`: the words that say where a mark stands, and from which on these are edges.
-PLACES = {"glyph": 9, "rect": 3, "row": 2, "line": 2}
 
 
-class Made(NamedTuple):
-    """A line of `pages`, and the byte of the item that makes it."""
-    place: int
-    line: str
+class Asked(NamedTuple):
+    """How a pair is compared, and the words that ask for it."""
+    words: Tuple[str, ...]
+    manner: Manner
+    most: Optional[int]
+    is_golden: bool = False
+
+
+STRICT = Manner(False, 0)
+USUAL = Asked((), STRICT, None)
+# In ticks.
+TENTH, INCH = 144_000_000, 7200 * TICKS_PER_7200TH
+OTHERS = (
+    Asked(("--any-order",), Manner(True, 0), None),
+    Asked(("--within", "0.1mm"), Manner(False, TENTH), None),
+    Asked(("--within", "1in", "--any-order"), Manner(True, INCH), None),
+    Asked(("--within", "0mm", "--all"), STRICT, 1000),
+    Asked(("--all",), STRICT, 1000),
+    Asked(("--all", "--most", "2"), STRICT, 2),
+    Asked(("--all", "--any-order", "--most", "3"), Manner(True, 0), 3),
+    Asked(("--all", "--within", "0.1mm"), Manner(False, TENTH), 1000),
+    Asked(("--golden", "kept"), STRICT, None, True),
+    Asked(("--golden", "kept/", "--all"), STRICT, 1000, True),
+)
 
 
 class Run(NamedTuple):
@@ -53,9 +74,10 @@ class Run(NamedTuple):
 
 
 class Due(NamedTuple):
+    """The exit status, the lines, and of each object some members."""
     status: int
-    line: str
-    members: Dict[str, object]
+    lines: List[str]
+    members: List[Dict[str, object]]
 
 
 def made_by(profile: Profile, job: bytes) -> List[int]:
@@ -84,42 +106,19 @@ def run_of(lines: List[str], profile: Profile, job: bytes) -> Run:
     return Run([Made(*made) for made in zip(places, lines)], failure, len(job))
 
 
-def is_end(line: str) -> bool:
-    return line.startswith("page ")
-
-
-def shape(line: str) -> Tuple:
-    """A mark without its place: what it is, and how far its edges are apart."""
-    words = line.split(" ")
-    kind = words[0]
-    if kind == "row":
-        return (kind, words[1], words[4])
-    at = PLACES[kind]
-    edges = [int(word) for word in words[at:]]
-    if kind == "line":
-        return (kind, words[1], edges[2] - edges[0], edges[3] - edges[1])
-    left, top, right, bottom = edges
-    what = tuple(words[1:at])
-    if kind == "glyph":
-        what = (*words[1:at - 1], int(words[at - 1]) - top)
-    return (kind, what, right - left, bottom - top)
-
-
-def change_of(old: str, new: str) -> str:
+def change_between(old: str, new: str) -> str:
     if is_end(old) and is_end(new):
         return "page ends otherwise"
     if is_end(old):
         return "only in NEW"
-    if is_end(new):
-        return "only in OLD"
-    return "moved" if shape(old) == shape(new) else "changed"
+    return "only in OLD" if is_end(new) else change_of(old, new)
 
 
 def first_difference(old: Run, new: Run) -> Optional[Tuple[int, int, int, int, str]]:
     page = mark = 1
     for one, other in zip(old.made, new.made):
         if one.line != other.line:
-            return page, mark, one.place, other.place, change_of(one.line, other.line)
+            return page, mark, one.place, other.place, change_between(one.line, other.line)
         page, mark = (page + 1, 1) if is_end(one.line) else (page, mark + 1)
     common = min(len(old.made), len(new.made))
     if len(old.made) > common:
@@ -133,29 +132,60 @@ def failing(name: str, printer: str, failure: str) -> Due:
     """What is told of a job that fails, by the last line of `pages`, whose profile is 1 or 0."""
     _, at, profile, finding = failure.split(" ", 3)
     told = f" printer={printer}" if profile != "profile=0" else ""
-    return Due(1, f"FAIL {at}{told} {finding} {name}",
-               {"job": name, "verdict": "FAIL", "at": int(at[3:])})
+    return Due(1, [f"FAIL {at}{told} {finding} {name}"],
+               [{"job": name, "verdict": "FAIL", "at": int(at[3:])}])
 
 
-def due_of(runs: List[Tuple[str, Run, Run]]) -> Due:
+class Names(NamedTuple):
+    """The names of both jobs, and what stands at the end of a line."""
+    old: str
+    new: str
+    end: str
+
+    def members(self, verdict: str, **others: object) -> Dict[str, object]:
+        return {"old": self.old, "new": self.new, "verdict": verdict, **others}
+
+
+def difference(names: Names, printer: str, found: Tuple[int, int, int, int, str]) -> Tuple:
+    """The line and the members of a difference."""
+    page, mark, old_at, new_at, change = found
+    line = (f"DIFFERS page={page} mark={mark} old={old_at} new={new_at} printer={printer} "
+            f"{change}{names.end}")
+    return line, names.members("DIFFERS", page=page, mark=mark, old_at=old_at, new_at=new_at,
+                               printer=printer, change=change)
+
+
+def differing(asked: Asked, names: Names, printer: str, old: Run, new: Run) -> Optional[Due]:
+    """What is due of two jobs that differ on a printer."""
+    if asked.manner == STRICT and asked.most is None:
+        found = first_difference(old, new)
+        told = [difference(names, printer, found)] if found else []
+        return Due(1, *map(list, zip(*told))) if told else None
+    by_page = differences(asked.manner, pages_of(old.made, old.end), pages_of(new.made, new.end),
+                          old.end, new.end)
+    every = [one for of_page in by_page for one in of_page]
+    most = 1 if asked.most is None else asked.most
+    told = [difference(names, printer, (one.page, one.mark, *one[3:])) for one in every[:most]]
+    if asked.most is not None and len(every) > most:
+        pages = sum(map(bool, by_page))
+        told.append((f"MORE pages={pages}{names.end}", names.members("MORE", pages=pages)))
+    return Due(1, *map(list, zip(*told))) if told else None
+
+
+def due_of(asked: Asked, names: Names, runs: List[Tuple[str, Run, Run]]) -> Due:
     """What is due of two jobs, OLD and NEW, by their runs on each printer."""
     for printer, old, new in runs:
-        for name, run in (("old", old), ("new", new)):
+        for name, run in ((names.old, old), (names.new, new)):
             if run.failure:
                 return failing(name, printer, run.failure)
-        found = first_difference(old, new)
-        if found is not None:
-            page, mark, old_at, new_at, change = found
-            line = (f"DIFFERS page={page} mark={mark} old={old_at} new={new_at} "
-                    f"printer={printer} {change}")
-            return Due(1, line, {"old": "old", "new": "new", "verdict": "DIFFERS", "page": page,
-                                 "mark": mark, "old_at": old_at, "new_at": new_at,
-                                 "printer": printer, "change": change})
+        due = differing(asked, names, printer, old, new)
+        if due is not None:
+            return due
     lines = [made.line for made in runs[0][1].made]
     pages = sum(map(is_end, lines))
     marks = len(lines) - pages
-    return Due(0, f"SAME pages={pages} marks={marks}",
-               {"old": "old", "new": "new", "verdict": "SAME", "pages": pages, "marks": marks})
+    return Due(0, [f"SAME pages={pages} marks={marks}{names.end}"],
+               [names.members("SAME", pages=pages, marks=marks)])
 
 
 # ---- pairs
@@ -223,32 +253,49 @@ class Tried:
         return self.run("pages", job, printer).stdout.decode().splitlines()
 
 
+def objects_in(text: bytes) -> List[Dict[str, object]]:
+    try:
+        return [json.loads(line) for line in text.splitlines()]
+    except ValueError:
+        return []
+
+
 def told(tried: Tried, words: List[str], due: Due) -> int:
     """How many of the two forms differ from what is due."""
-    run = tried.run("compare", "old", "new", *words)
+    run = tried.run("compare", *words)
     differ = 0
-    if (run.returncode, run.stdout.decode()) != (due.status, due.line + "\n"):
-        print(f"compare {words}: due {due.status} {due.line!r}\n  told {run.returncode} "
+    if (run.returncode, run.stdout.decode().splitlines()) != (due.status, due.lines):
+        print(f"compare {words}: due {due.status} {due.lines!r}\n  told {run.returncode} "
               f"{run.stdout!r} {run.stderr!r}")
         differ += 1
-    run = tried.run("compare", "--format", "json", "old", "new", *words)
-    try:
-        object_told = json.loads(run.stdout)
-    except ValueError:
-        object_told = {}
-    if run.returncode != due.status or not due.members.items() <= object_told.items():
+    run = tried.run("compare", "--format", "json", *words)
+    objects = objects_in(run.stdout)
+    if run.returncode != due.status or len(objects) != len(due.members) or not all(
+            members.items() <= one.items() for members, one in zip(due.members, objects)):
         print(f"compare --format json {words}: due {due.members}\n  told {run.stdout!r}")
         differ += 1
     return differ
 
 
-def compared(tried: Tried, profiles: List[Profile], words: List[str], names: List[str]) -> int:
+def compared(tried: Tried, profiles: List[Profile], words: List[str], names: List[str],
+             manners: Tuple[Asked, ...] = (USUAL,)) -> int:
     """How many forms differ of the files `old` and `new`."""
     old_job, new_job = ((tried.folder / name).read_bytes() for name in ("old", "new"))
     runs = [(name, run_of(tried.lines("old", word), profile, old_job),
              run_of(tried.lines("new", word), profile, new_job))
             for profile, word, name in zip(profiles, words, names)]
-    return told(tried, words, due_of(runs))
+    differ = 0
+    for asked in manners:
+        if asked.is_golden:
+            (tried.folder / "kept").mkdir(exist_ok=True)
+            (tried.folder / "kept" / "new").write_bytes(old_job)
+            given = [*asked.words, *(f"-p{word}" for word in words), "new"]
+            due = due_of(asked, Names("kept/new", "new", " new"), runs)
+        else:
+            given = [*asked.words, "old", "new", *words]
+            due = due_of(asked, Names("old", "new", ""), runs)
+        differ += told(tried, given, due)
+    return differ
 
 
 def respelled(tried: Tried, profiles: List[Profile], words: List[str], names: List[str]) -> int:
@@ -320,7 +367,7 @@ def pair_of(random: Random, seed: str, number: int) -> Optional[Pair]:
     return Pair(texts, profiles, job, edit(random, job))
 
 
-def differ_in(tried: Tried, random: Random, pair: Pair) -> int:
+def differ_in(tried: Tried, random: Random, pair: Pair, manners: Tuple[Asked, ...]) -> int:
     """How many forms differ of a pair, and of some also of what `plain` and `pin` write."""
     words = [f"p{at}.profile" for at in range(len(pair.texts))]
     for word, text in zip(words, pair.texts):
@@ -328,7 +375,7 @@ def differ_in(tried: Tried, random: Random, pair: Pair) -> int:
     (tried.folder / "old").write_bytes(pair.old)
     (tried.folder / "new").write_bytes(pair.new)
     names = [name_in(text) for text in pair.texts]
-    differ = compared(tried, pair.profiles, words, names)
+    differ = compared(tried, pair.profiles, words, names, manners)
     if random.random() < 0.25:
         differ += respelled(tried, pair.profiles, words, names)
     return differ
@@ -337,15 +384,16 @@ def differ_in(tried: Tried, random: Random, pair: Pair) -> int:
 def main(program: str, count: int, seed: str) -> int:
     program = str(Path(program).resolve())
     done = differ = number = 0
-    while done < 2 * count:
+    while done < 4 * count:
         random = Random(f"{seed}/edit/{number}")
         pair = pair_of(random, seed, number)
         number += 1
         if pair is None:
             continue
+        manners = (USUAL, random.choice(OTHERS))
         with tempfile.TemporaryDirectory() as name:
-            wrong = differ_in(Tried(program, Path(name)), random, pair)
-        done += 2
+            wrong = differ_in(Tried(program, Path(name)), random, pair, manners)
+        done += 2 * len(manners)
         if wrong:
             print(f"  seed {seed}, pair {number - 1}: {pair.old!r} and {pair.new!r}")
         differ += wrong

@@ -90,7 +90,7 @@ for place in '' help
     complete -c pclcheck -n "__pclcheck_at '$place'" -a survey \
         -d 'Tells all that is refused of jobs, each kind of command once, and gives no verdict'
     complete -c pclcheck -n "__pclcheck_at '$place'" -a compare \
-        -d 'Tells whether two jobs print the same, or where they first differ'
+        -d 'Tells whether two jobs print the same, or how they differ'
     complete -c pclcheck -n "__pclcheck_at '$place'" -a list \
         -d 'Lists the items of a job: each command, control code and byte of text'
     complete -c pclcheck -n "__pclcheck_at '$place'" -a pages \
@@ -161,6 +161,18 @@ complete -c pclcheck -n '__pclcheck_at compare' -s p -l printer -x -a '(__pclche
     -d 'A printer, behind those of PROFILE. May come often'
 complete -c pclcheck -n '__pclcheck_at compare' -s f -l fleet -r \
     -d 'A text with a profile a line; as -p, and behind those of -p'
+complete -c pclcheck -n '__pclcheck_at compare' -l any-order \
+    -d 'The marks of a page may be made in any order'
+complete -c pclcheck -n '__pclcheck_at compare' -l within -x \
+    -d 'Each edge of a mark may lie off by so much, as 0.1mm or 0.004in'
+complete -c pclcheck -n '__pclcheck_at compare' -l all \
+    -d 'Tells all differences of the first printer that has one'
+complete -c pclcheck -n '__pclcheck_at compare' -l most -x \
+    -d 'Tells so many of them at most; without it 1000'
+complete -c pclcheck -n '__pclcheck_at compare' -l golden -r \
+    -d 'Compares each word with the file of its name in DIR; printers come by -p and -f'
+complete -c pclcheck -n '__pclcheck_at compare' -l picture -r \
+    -d 'Draws the first page that differs into OUT, with --all each of them'
 complete -c pclcheck -n '__pclcheck_at compare' -l format -x -a 'line words json' \
     -d 'A line, a sentence or an object of JSON'
 

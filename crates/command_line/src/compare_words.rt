@@ -1,17 +1,24 @@
 //! The words of the command `compare`.
-ghost use Rattle.std.specs.Prelude.{◌++◌, ◌≢◌, [], IfOk, IfSome};
+ghost use Rattle.std.specs.Prelude.{IfOk, IfSome};
+ghost use Rattle.requests.specs.Comparisons.{NamesCompared};
 ghost use Rattle.requests.specs.Words.{NamesSome};
 
 use crate::form_words::{SURVEY_FORMS, form_asked};
+use crate::nearness_words::{ALL, ANY_ORDER, MOST, WITHIN, extent_of, nearness_of};
+use crate::panel_words::ChoiceFault;
 use crate::rows::{CommandRow, Count, Need, OptionRow, Value, WordRow};
-use crate::texts::both_texts;
+use crate::texts::{both_texts, texts_of};
 use clap::ArgMatches;
-use requests::{CompareWords, Form, Request};
+use requests::{CompareWords, ComparedJobs, Form, Request};
 use std::alloc::{AllocError, Global};
 
 const SHORT_HELP: &str = "Usage:
   pclcheck compare OLD NEW PROFILE..
       whether NEW prints what OLD does, or the first difference
+  pclcheck compare --all OLD NEW PROFILE..
+      all differences
+  pclcheck compare --golden DIR -p PROFILE NEW..
+      each job with the one of its name in DIR
 
 'pclcheck compare --help' tells all.";
 
@@ -20,6 +27,11 @@ const EXPLANATION: &str =
 pages that end with the same size, orientation, sides, tray and copies. Each printer stands at the
 first value that its profile lists of each field. How the commands are spelled, and by which of them
 a mark comes to its place, does not matter.
+
+  --any-order      the marks of a page may be made in any order: on paper the same, but that where
+                   two overlap the other one may lie on top, which is told as covered otherwise
+  --within LENGTH  marks are the same whose edges lie off by that at most, each for itself: on paper
+                   nothing is shifted, wider or higher by more. In mm or in, as 0.1mm and 0.004in
 
 Output, one line:
   SAME pages=N marks=N
@@ -34,21 +46,36 @@ Output, one line:
                 a job makes nothing more, its length
   CHANGE        moved: the mark stands elsewhere, and is else the same; changed: another one stands
                 there; only in OLD, only in NEW: the other one has no further mark on the page, or no
-                page; page ends otherwise: by one of its five values
+                page; page ends otherwise: by one of its five values; covered otherwise: NEW makes
+                the mark and an earlier one that it overlaps in the other order
 
-With --format words it is a sentence, with --format json an object. Both jobs are read side by side,
-once for each printer: for several printers they have to be files.
+With --all a line for each difference on that printer, page by page. Marks that only one job has are
+left out, as few as possible and at most 64 together, up to where both go on alike, so that mark= is
+the number in OLD, and of what is only in NEW the one in NEW. Of more than --most differences:
+  MORE pages=N  more are left out, and so many pages differ
 
-Exit status:
+With --golden DIR each word is a NEW, and its OLD the file of the same name in DIR. Its lines end
+with NEW. A job that cannot be read has a line as in check, and the others are compared.
+
+With --picture OUT the first page that differs is drawn into the file OUT as an SVG, with --all each
+page of that printer, 100 at most, as an HTML document: gray what both have, red what OLD has alone,
+green what NEW has alone, and beside it the differences, 55 in the SVG and 1000 a page in the
+document at most. OUT takes its place when it is whole, and is as it was where no page differs.
+
+With --format words each line is a sentence, with --format json an object. Both jobs are read side by
+side, once for each printer: for several printers they have to be files. --any-order, --within and
+--all hold a page of each, of 1048576 marks at most.
+
+Exit status, of many jobs the greatest of theirs:
   0  both print the same, or help was asked for
   1  they differ, or one fails
   2  usage error, or a profile or a fleet is refused
-  3  a read or a write failed, memory ran out, or no end after 2^40 reads";
+  3  a read or a write failed, memory ran out, a page has too many marks, or no end after 2^40 reads";
 
 /// The words of the command `compare`.
 pub(crate) const COMPARE: &CommandRow = &CommandRow {
     name: "compare",
-    about: "Tells whether two jobs print the same, or where they first differ",
+    about: "Tells whether two jobs print the same, or how they differ",
     short_help: SHORT_HELP,
     explanation: EXPLANATION,
     words: &[
@@ -60,15 +87,15 @@ pub(crate) const COMPARE: &CommandRow = &CommandRow {
         },
         WordRow {
             id: "NEW",
-            need: Need::Always,
+            need: Need::Unless(&["GOLDEN"]),
             count: Count::One,
             help: "The path of the job that is to print the same",
         },
         WordRow {
             id: "PROFILE",
-            need: Need::Unless(&["PRINTER", "FLEET"]),
+            need: Need::Unless(&["PRINTER", "FLEET", "GOLDEN"]),
             count: Count::Several("PROFILE"),
-            help: "The printers: paths of profiles, or samples @A to @D",
+            help: "The printers: paths of profiles, or samples @A to @D; with --golden further jobs",
         },
     ],
     options: &[
@@ -87,6 +114,26 @@ pub(crate) const COMPARE: &CommandRow = &CommandRow {
             value: Value::EachText("FILE"),
             excludes: None,
             help: "A text with a profile a line; as -p, and behind those of -p",
+        },
+        ANY_ORDER,
+        WITHIN,
+        ALL,
+        MOST,
+        OptionRow {
+            id: "GOLDEN",
+            short: None,
+            long: "golden",
+            value: Value::Text("DIR"),
+            excludes: None,
+            help: "Compares each word with the file of its name in DIR; printers come by -p and -f",
+        },
+        OptionRow {
+            id: "PICTURE",
+            short: None,
+            long: "picture",
+            value: Value::Text("OUT"),
+            excludes: Some("GOLDEN"),
+            help: "Draws the first page that differs into OUT, with --all each of them",
         },
         OptionRow {
             id: "FORM",
@@ -108,7 +155,7 @@ pub fn compare_request<'a>(
     alloc: Global,
     usual: Form,
     found: &ArgMatches<'a>,
-) -> Result<Option<Request<'a>>, AllocError>
+) -> Result<Option<Request<'a>>, ChoiceFault<'a>>
     ensures { IfOk result (λ request. IfSome request NamesSome) }
 {
     Ok(read_compared(alloc, usual, found)?.map(Request::Compare))
@@ -119,26 +166,93 @@ fn read_compared<'a>(
     alloc: Global,
     usual: Form,
     found: &ArgMatches<'a>,
-) -> Result<Option<CompareWords<'a>>, AllocError>
-    ensures { IfOk result (λ words. IfSome words (λ words.
-        words.printers.items ++ words.fleets.items ≢ [])) }
+) -> Result<Option<CompareWords<'a>>, ChoiceFault<'a>>
+    ensures { IfOk result (λ words. IfSome words NamesCompared) }
+{
+    match found.get_str("GOLDEN") {
+        Some(folder) => read_golden(alloc, usual, found, folder),
+        None => read_pair(alloc, usual, found),
+    }
+}
+
+/// Two jobs, and printers behind them.
+fn read_pair<'a>(
+    alloc: Global,
+    usual: Form,
+    found: &ArgMatches<'a>,
+) -> Result<Option<CompareWords<'a>>, ChoiceFault<'a>>
+    ensures { IfOk result (λ words. IfSome words NamesCompared) }
 {
     let Some((old_job, new_job)) = both_texts(found, "OLD", "NEW") else {
         return Ok(None);
     };
-    let mut printers = Vec::new(alloc);
-    printers.extend_from_slice(found.get_strs("PROFILE").unwrap_or(&[]))?;
+    let (nearness, extent) = (nearness_of(found)?, extent_of(found)?);
+    let picture = picture_of(found)?;
+    let mut printers = texts_of(alloc, found, "PROFILE")?;
     printers.extend_from_slice(found.get_strs("PRINTER").unwrap_or(&[]))?;
-    let mut fleets = Vec::new(alloc);
-    fleets.extend_from_slice(found.get_strs("FLEET").unwrap_or(&[]))?;
+    let fleets = texts_of(alloc, found, "FLEET")?;
     if printers.is_empty() && fleets.is_empty() {
         return Ok(None);
     }
     Ok(Some(CompareWords {
-        old_job,
-        new_job,
+        jobs: ComparedJobs::Pair { old_job, new_job },
         printers,
         fleets,
         form: form_asked(found).unwrap_or(usual),
+        nearness,
+        extent,
+        picture,
     }))
+}
+
+/// The path of the picture. Standard output, which has the lines, is none.
+fn picture_of<'a>(found: &ArgMatches<'a>) -> Result<Option<&'a str>, ChoiceFault<'a>> {
+    let picture = found.get_str("PICTURE");
+    if matches!(picture, Some("-")) {
+        return Err(ChoiceFault::PictureOnOutput);
+    }
+    Ok(picture)
+}
+
+/// Jobs that are compared with those of their names in a folder, and printers of options alone.
+fn read_golden<'a>(
+    alloc: Global,
+    usual: Form,
+    found: &ArgMatches<'a>,
+    folder: &'a str,
+) -> Result<Option<CompareWords<'a>>, ChoiceFault<'a>>
+    ensures { IfOk result (λ words. IfSome words NamesCompared) }
+{
+    let (nearness, extent) = (nearness_of(found)?, extent_of(found)?);
+    let jobs = words_of(alloc, found)?;
+    let printers = texts_of(alloc, found, "PRINTER")?;
+    let fleets = texts_of(alloc, found, "FLEET")?;
+    if printers.is_empty() && fleets.is_empty() {
+        return Err(ChoiceFault::NoPrinter);
+    }
+    if jobs.is_empty() {
+        return Ok(None);
+    }
+    Ok(Some(CompareWords {
+        jobs: ComparedJobs::Golden { folder, jobs },
+        printers,
+        fleets,
+        form: form_asked(found).unwrap_or(usual),
+        nearness,
+        extent,
+        picture: None,
+    }))
+}
+
+/// All words, in their order.
+fn words_of<'a>(alloc: Global, found: &ArgMatches<'a>) -> Result<Vec<&'a str>, AllocError> {
+    let mut words = Vec::new(alloc);
+    if let Some(word) = found.get_str("OLD") {
+        words.push(word)?;
+    }
+    if let Some(word) = found.get_str("NEW") {
+        words.push(word)?;
+    }
+    words.extend_from_slice(found.get_strs("PROFILE").unwrap_or(&[]))?;
+    Ok(words)
 }

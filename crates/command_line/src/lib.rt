@@ -7,6 +7,7 @@ mod commands;
 mod compare_words;
 mod form_words;
 mod many_words;
+mod nearness_words;
 mod panel_words;
 mod pdf_words;
 mod picture_words;

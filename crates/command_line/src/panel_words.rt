@@ -7,7 +7,7 @@ use requests::Choice;
 use std::alloc::{AllocError, Global};
 use thiserror::Error;
 
-/// Why the words of `--panel` choose nothing.
+/// Why the words of options ask for nothing.
 #[derive(Clone, Copy, Debug, PartialEq, Eq, Drop, Error)]
 pub enum ChoiceFault<'a> {
     #[error("--panel: '{0}' is not of the form FIELD=VALUE")]
@@ -18,6 +18,14 @@ pub enum ChoiceFault<'a> {
     Value(&'a str),
     #[error("--panel: '{0}' chooses for a field that was chosen for")]
     Repeated(&'a str),
+    #[error("--within: '{0}' is no length in mm or in with up to four decimals, as 0.1mm or 0.004in")]
+    Length(&'a str),
+    #[error("--most: it limits what --all tells, which was not asked for")]
+    MostAlone,
+    #[error("--picture: '-' is standard output, which has what differs in words; name a file")]
+    PictureOnOutput,
+    #[error("--golden: each word behind it is a job; printers come by -p and -f")]
+    NoPrinter,
     #[error("out of memory")]
     Memory(#[from(alloc)] AllocError),
 }
@@ -102,7 +110,7 @@ fn orientation_of(word: &str) -> Option<u32> {
 }
 
 /// The ten-thousandths of a number with up to four decimals.
-fn ten_thousandths_of(word: &str) -> Option<u32> {
+pub(crate) fn ten_thousandths_of(word: &str) -> Option<u32> {
     let Some((whole, decimals)) = word.split_once('.') else {
         return digits_of(word)?.checked_mul(10_000);
     };

@@ -1,6 +1,9 @@
 //! The words that the program is started with.
 ghost use Rattle.std.specs.Prelude.{◌≡◌, ◌≢◌, IsFalse, OnOk, IfOk, IfErr, IfSome, is_some};
+ghost use Rattle.std.specs.List.{list_any};
+ghost use Rattle.std.specs.Str.{bytes_eq};
 ghost use Rattle.command_line.specs.Words.{IsEndOfWords};
+ghost use Rattle.requests.specs.Comparisons.{reads_job, reads_printer};
 ghost use Rattle.requests.specs.Words.{KeepsWhatItReads, NamesSome};
 
 use crate::check_words::check_request;
@@ -17,7 +20,7 @@ use crate::text_commands::{pin_request, text_request};
 use crate::word::{Word, first_stand_in, first_without_text, is_stand_in, without_zeros};
 use clap::ArgMatches;
 use clap::error::ErrorKind;
-use requests::{Form, Input, ManyWords, Request, Status, write_pieces};
+use requests::{CompareWords, ComparedJobs, Form, Input, ManyWords, Request, Status, write_pieces};
 use std::alloc::Global;
 use std::convert::AsStr;
 use streams::{Error, Outlet, write_text};
@@ -169,6 +172,7 @@ fn overwritten(request: &Request<'_>) -> Option<Input>
         Request::ProfileSheet { profile, out } => {
             return (profile == out).then_some(Input::Profile);
         }
+        Request::Compare(words) => return overwritten_by_picture(words),
         _ => return None,
     };
     if job == out {
@@ -180,7 +184,56 @@ fn overwritten(request: &Request<'_>) -> Option<Input>
     None
 }
 
-/// Writes why the words of `--panel` choose nothing.
+/// What a picture of a comparison would be written to that is also read, by its words.
+fn overwritten_by_picture(words: &CompareWords<'_>) -> Option<Input>
+    ensures { IsFalse (is_some result) → IfSome words.now.picture (λ out.
+        IsFalse (reads_job words.now.jobs out.now)
+        × IsFalse (reads_printer words.now out.now)) }
+{
+    match words.picture {
+        Some(out) => read_at(words, out),
+        None => None,
+    }
+}
+
+/// What a comparison reads at a path, by its words.
+fn read_at(words: &CompareWords<'_>, path: &str) -> Option<Input>
+    ensures { IsFalse (is_some result) → IsFalse (reads_job words.now.jobs path.now)
+        × IsFalse (reads_printer words.now path.now) }
+{
+    if reads_job(&words.jobs, path) {
+        return Some(Input::Job);
+    }
+    if reads_printer(words, path) {
+        return Some(Input::Profile);
+    }
+    None
+}
+
+/// Whether a word names a job at this path.
+fn reads_job(jobs: &ComparedJobs<'_>, path: &str) -> bool
+    ensures { result ≡ reads_job jobs.now path.now }
+{
+    match jobs {
+        ComparedJobs::Pair { old_job, new_job } => *old_job == path || *new_job == path,
+        ComparedJobs::Golden { jobs, .. } => has_path(jobs.as_slice(), path),
+    }
+}
+
+/// Whether a word names a printer or a fleet at this path.
+fn reads_printer(words: &CompareWords<'_>, path: &str) -> bool
+    ensures { result ≡ reads_printer words.now path.now }
+{
+    has_path(words.printers.as_slice(), path) || has_path(words.fleets.as_slice(), path)
+}
+
+fn has_path(words: &[&str], path: &str) -> bool
+    ensures { result ≡ list_any (λ word. bytes_eq word.now path.now) words.now }
+{
+    words.iter().any(|word| *word == path)
+}
+
+/// Writes why the words of options ask for nothing.
 fn refuse_choices<E: Outlet>(alloc: Global, fault: &ChoiceFault<'_>, stderr: &mut E) -> Status
     requires { IsFalse (E.state stderr.old).failed }
     ensures end { IsEndOfWords result }
@@ -213,7 +266,7 @@ fn request_of<'a>(
         return Ok(survey_request(alloc, usual, found)?);
     }
     if let Some(found) = matches.subcommand_matches("compare") {
-        return Ok(compare_request(alloc, usual, found)?);
+        return compare_request(alloc, usual, found);
     }
     if let Some(found) = matches.subcommand_matches("pin") {
         return pin_request(alloc, found);

@@ -1,2 +1,4 @@
-mod Finding
+mod Compared
+mod Drawings
 mod Names
+mod Pairs

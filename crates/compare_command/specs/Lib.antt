@@ -1,4 +1,9 @@
 pub mod Lines
 pub mod Sentences
 pub mod Objects
+pub mod Outcomes
+pub mod Telling
 pub mod Compare
+pub mod Golden
+pub mod Pictures
+pub mod Drawing

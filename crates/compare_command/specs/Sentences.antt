@@ -1,13 +1,14 @@
--- The sentence that tells what comes of two jobs.
+-- The sentences that tell what comes of two jobs.
 use Rattle.std.specs.Prelude.{ℕ, List, ◌++◌, codes}
 use Rattle.job_reports.specs.JobSentences.{named_first}
 use Rattle.line_words.specs.Figures.{named}
 use Rattle.shown_bytes.specs.Shown.{shown_text}
 use Rattle.sinks.specs.declared.counts.Counts.{Counts}
-use Rattle.comparison.specs.declared.difference.Change.{Change}
-use Rattle.comparison.specs.declared.difference.Change.TheVariants.{Moved, Changed, OnlyInOld, OnlyInNew, PageEnds}
-use Rattle.comparison.specs.declared.difference.Difference.{Difference}
-use Rattle.compare_command.specs.Lines.{counts_words}
+use Rattle.page_comparison.specs.declared.differences.PageChange.{PageChange}
+use Rattle.page_comparison.specs.declared.differences.PageChange.TheVariants.{Moved, Changed, OnlyInOld, OnlyInNew}
+use Rattle.page_comparison.specs.declared.differences.PageChange.TheVariants.{PageEnds, Covers}
+use Rattle.page_comparison.specs.declared.differences.PageDifference.{PageDifference}
+use Rattle.compare_command.specs.Lines.{counts_words, mark_of}
 
 unfoldable pub counts_part : Counts → List ℕ
 counts_part counts = codes " (" ++ counts_words counts ++ codes ")\n"
@@ -18,35 +19,45 @@ same_sentence old new counts =
     named_first new ++ codes "prints the same as " ++ shown_text old ++ counts_part counts
 
 -- what differs
-abbrev pub change_phrase : Change → List ℕ
+abbrev pub change_phrase : PageChange → List ℕ
 change_phrase Moved = codes "the mark is moved"
 change_phrase Changed = codes "the mark is another one"
 change_phrase OnlyInOld = codes "the mark is missing"
 change_phrase OnlyInNew = codes "the mark is new"
 change_phrase PageEnds = codes "the page ends otherwise"
+change_phrase Covers = codes "the mark is covered otherwise"
 
-unfoldable pub spot_phrase : Difference → List ℕ
-spot_phrase difference = named (codes " on page ") difference.page ++ named (codes " at mark ") difference.mark
+unfoldable pub spot_phrase : PageDifference → List ℕ
+spot_phrase difference = named (codes " on page ") difference.page ++ named (codes " at mark ") (mark_of difference)
 
-unfoldable pub printer_phrase : List ℕ → Change → List ℕ
+unfoldable pub printer_phrase : List ℕ → PageChange → List ℕ
 printer_phrase name change = codes " for " ++ name ++ codes ": " ++ change_phrase change
 
 -- where the items stand
-unfoldable pub old_phrase : Difference → List ℕ
+unfoldable pub old_phrase : PageDifference → List ℕ
 old_phrase difference = named (codes " (byte ") difference.old_place ++ codes " of it"
 
-unfoldable pub new_phrase : Difference → List ℕ
+unfoldable pub new_phrase : PageDifference → List ℕ
 new_phrase difference = named (codes ", byte ") difference.new_place ++ codes " here)\n"
 
-unfoldable pub places_phrase : Difference → List ℕ
+unfoldable pub places_phrase : PageDifference → List ℕ
 places_phrase difference = old_phrase difference ++ new_phrase difference
 
-unfoldable pub what_phrase : List ℕ → Difference → List ℕ
+unfoldable pub what_phrase : List ℕ → PageDifference → List ℕ
 what_phrase name difference = printer_phrase name difference.change ++ places_phrase difference
 
-unfoldable pub difference_phrase : List ℕ → Difference → List ℕ
+unfoldable pub difference_phrase : List ℕ → PageDifference → List ℕ
 difference_phrase name difference = spot_phrase difference ++ what_phrase name difference
 
-unfoldable pub difference_sentence : (old new name : List ℕ) → Difference → List ℕ
+unfoldable pub difference_sentence : (old new name : List ℕ) → PageDifference → List ℕ
 difference_sentence old new name difference =
     named_first new ++ codes "differs from " ++ shown_text old ++ difference_phrase name difference
+
+-- so many pages differ
+unfoldable pub more_part : ℕ → List ℕ
+more_part pages = named (codes " are left out (pages that differ: ") pages ++ codes ")\n"
+
+-- more differences of NEW are left out
+unfoldable pub more_sentence : (old new : List ℕ) → ℕ → List ℕ
+more_sentence old new pages =
+    named_first new ++ codes "more differences from " ++ shown_text old ++ more_part pages

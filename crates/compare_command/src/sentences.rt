@@ -1,4 +1,4 @@
-//! The sentence that tells what comes of two jobs.
+//! The sentences that tell what comes of two jobs.
 
 ghost use Rattle.std.specs.Prelude.{◌≡◌, ◌++◌, OnOk};
 ghost use Rattle.compare_command.specs.Sentences.{
@@ -6,6 +6,8 @@ ghost use Rattle.compare_command.specs.Sentences.{
   counts_part,
   difference_phrase,
   difference_sentence,
+  more_part,
+  more_sentence,
   new_phrase,
   old_phrase,
   places_phrase,
@@ -15,10 +17,10 @@ ghost use Rattle.compare_command.specs.Sentences.{
   what_phrase,
 };
 
-use crate::lines::push_counts;
-use comparison::{Change, Difference};
+use crate::lines::{mark_of, push_counts};
 use job_reports::push_named_first;
 use line_words::push_named;
+use page_comparison::{PageChange, PageDifference};
 use shown_bytes::push_shown_text;
 use sinks::Counts;
 use std::alloc::{AllocError, Allocator};
@@ -52,7 +54,7 @@ fn push_counts_part<A: Allocator>(text: &mut Vec<u8, A>, counts: Counts) -> Resu
     Ok(())
 }
 
-/// Appends the sentence on jobs of these names that differ first so on the printer of this one.
+/// Appends the sentence on jobs of these names that differ so on the printer of this one.
 #[tactic(auto, unfolding(crate::specs::Sentences::difference_sentence))]
 pub(crate) fn push_difference_sentence<A: Allocator + Copy>(
     alloc: A,
@@ -60,7 +62,7 @@ pub(crate) fn push_difference_sentence<A: Allocator + Copy>(
     old_name: &str,
     new_name: &str,
     printer: &[u8],
-    difference: Difference,
+    difference: PageDifference,
 ) -> Result<(), AllocError>
     ensures { OnOk result (text.new.items ≡ text.old.items
         ++ difference_sentence old_name.now new_name.now printer.now difference) }
@@ -72,11 +74,40 @@ pub(crate) fn push_difference_sentence<A: Allocator + Copy>(
     Ok(())
 }
 
+/// Appends the sentence on differences of jobs of these names that are left out, where so many
+/// pages differ.
+#[tactic(auto, unfolding(crate::specs::Sentences::more_sentence))]
+pub(crate) fn push_more_sentence<A: Allocator + Copy>(
+    alloc: A,
+    text: &mut Vec<u8, A>,
+    old_name: &str,
+    new_name: &str,
+    pages: u64,
+) -> Result<(), AllocError>
+    ensures { OnOk result (text.new.items ≡ text.old.items
+        ++ more_sentence old_name.now new_name.now pages) }
+{
+    push_named_first(alloc, text, new_name.as_bytes())?;
+    text.extend_from_slice(b"more differences from ")?;
+    push_shown_text(text, old_name.as_bytes())?;
+    push_more_part(text, pages)?;
+    Ok(())
+}
+
+#[tactic(auto, unfolding(crate::specs::Sentences::more_part))]
+fn push_more_part<A: Allocator>(text: &mut Vec<u8, A>, pages: u64) -> Result<(), AllocError>
+    ensures { OnOk result (text.new.items ≡ text.old.items ++ more_part pages) }
+{
+    push_named(text, b" are left out (pages that differ: ", pages)?;
+    text.extend_from_slice(b")\n")?;
+    Ok(())
+}
+
 #[tactic(auto, unfolding(crate::specs::Sentences::difference_phrase))]
 fn push_difference<A: Allocator>(
     text: &mut Vec<u8, A>,
     printer: &[u8],
-    difference: Difference,
+    difference: PageDifference,
 ) -> Result<(), AllocError>
     ensures { OnOk result (text.new.items ≡ text.old.items
         ++ difference_phrase printer.now difference) }
@@ -86,18 +117,21 @@ fn push_difference<A: Allocator>(
 }
 
 #[tactic(auto, unfolding(crate::specs::Sentences::spot_phrase))]
-fn push_spot<A: Allocator>(text: &mut Vec<u8, A>, difference: Difference) -> Result<(), AllocError>
+fn push_spot<A: Allocator>(
+    text: &mut Vec<u8, A>,
+    difference: PageDifference,
+) -> Result<(), AllocError>
     ensures { OnOk result (text.new.items ≡ text.old.items ++ spot_phrase difference) }
 {
     push_named(text, b" on page ", difference.page)?;
-    push_named(text, b" at mark ", difference.mark)
+    push_named(text, b" at mark ", mark_of(difference))
 }
 
 #[tactic(auto, unfolding(crate::specs::Sentences::what_phrase))]
 fn push_what<A: Allocator>(
     text: &mut Vec<u8, A>,
     printer: &[u8],
-    difference: Difference,
+    difference: PageDifference,
 ) -> Result<(), AllocError>
     ensures { OnOk result (text.new.items ≡ text.old.items
         ++ what_phrase printer.now difference) }
@@ -110,7 +144,7 @@ fn push_what<A: Allocator>(
 fn push_printer<A: Allocator>(
     text: &mut Vec<u8, A>,
     printer: &[u8],
-    change: Change,
+    change: PageChange,
 ) -> Result<(), AllocError>
     ensures { OnOk result (text.new.items ≡ text.old.items
         ++ printer_phrase printer.now change) }
@@ -123,22 +157,23 @@ fn push_printer<A: Allocator>(
 }
 
 /// What differs.
-fn change_phrase(change: Change) -> &'static [u8]
+fn change_phrase(change: PageChange) -> &'static [u8]
     ensures { result.now ≡ change_phrase change }
 {
     match change {
-        Change::Moved => b"the mark is moved",
-        Change::Changed => b"the mark is another one",
-        Change::OnlyInOld => b"the mark is missing",
-        Change::OnlyInNew => b"the mark is new",
-        Change::PageEnds => b"the page ends otherwise",
+        PageChange::Moved => b"the mark is moved",
+        PageChange::Changed => b"the mark is another one",
+        PageChange::OnlyInOld => b"the mark is missing",
+        PageChange::OnlyInNew => b"the mark is new",
+        PageChange::PageEnds => b"the page ends otherwise",
+        PageChange::Covers => b"the mark is covered otherwise",
     }
 }
 
 #[tactic(auto, unfolding(crate::specs::Sentences::places_phrase))]
 fn push_places<A: Allocator>(
     text: &mut Vec<u8, A>,
-    difference: Difference,
+    difference: PageDifference,
 ) -> Result<(), AllocError>
     ensures { OnOk result (text.new.items ≡ text.old.items ++ places_phrase difference) }
 {
@@ -149,7 +184,7 @@ fn push_places<A: Allocator>(
 #[tactic(auto, unfolding(crate::specs::Sentences::old_phrase))]
 fn push_old_place<A: Allocator>(
     text: &mut Vec<u8, A>,
-    difference: Difference,
+    difference: PageDifference,
 ) -> Result<(), AllocError>
     ensures { OnOk result (text.new.items ≡ text.old.items ++ old_phrase difference) }
 {
@@ -160,7 +195,7 @@ fn push_old_place<A: Allocator>(
 #[tactic(auto, unfolding(crate::specs::Sentences::new_phrase))]
 fn push_new_place<A: Allocator>(
     text: &mut Vec<u8, A>,
-    difference: Difference,
+    difference: PageDifference,
 ) -> Result<(), AllocError>
     ensures { OnOk result (text.new.items ≡ text.old.items ++ new_phrase difference) }
 {

@@ -24,7 +24,7 @@ use Rattle.comparison.proofs.Comparisons.{both_end, by_reads, new_failing, old_f
 
 -- ---- what a job that is over has come to
 
-fails_by : (progress : Progress) (printer : Printer) (panel : Panel) (bytes : List ℕ) (made : List Made) (run : RunState)
+pub fails_by : (progress : Progress) (printer : Printer) (panel : Panel) (bytes : List ℕ) (made : List Made) (run : RunState)
     (failure : Failure) → failure_of progress ≡ Some failure → StandsBy progress printer panel bytes made run →
     IsFailing printer panel run.number run.lexer.ended bytes failure
 fails_by Open printer panel bytes made run failure e h = absurd cc
@@ -33,7 +33,7 @@ fails_by (Fails other) printer panel bytes made run failure e h =
     let same : other ≡ failure = cc in subst (IsFailing printer panel run.number run.lexer.ended bytes) same h
 fails_by OutOfMemory printer panel bytes made run failure e h = absurd h
 
-ends_by : (progress : Progress) (printer : Printer) (panel : Panel) (bytes : List ℕ) (made : List Made) (run : RunState) →
+pub ends_by : (progress : Progress) (printer : Printer) (panel : Panel) (bytes : List ℕ) (made : List Made) (run : RunState) →
     is_open progress ≡ false → failure_of progress ≡ None → StandsBy progress printer panel bytes made run →
     (run.lexer.ended ≡ true) × HasEnded printer panel run.number bytes made run.place
 ends_by Open printer panel bytes made run over none h = absurd (false≢true (sym over))
@@ -42,7 +42,7 @@ ends_by (Fails failure) printer panel bytes made run over none h = absurd cc
 ends_by OutOfMemory printer panel bytes made run over none h = absurd h
 
 -- the bytes are the job, where its end was told
-whole_job : (bytes job : List ℕ) → MayBe true bytes job → bytes ≡ job
+pub whole_job : (bytes job : List ℕ) → MayBe true bytes job → bytes ≡ job
 whole_job bytes job may = sym (may.1 ∙ (ap (λ l. bytes ++ l) (may.2 refl) ∙ append-nil bytes))
 
 -- ---- OLD

@@ -58,11 +58,11 @@ abbrev made_by : RunState → Event → Made
 made_by run event = record { place = run.place; event = event }
 
 module _ (following : Following) where
-  next_still : (event : Event) → next_of following ≡ Some event →
+  pub next_still : (event : Event) → next_of following ≡ Some event →
       (more : List Made) × (still_made following ≡ made_by following.run event ∷ more)
   next_still event is = taken_next (made_by following.run) following.run.events following.taken event is
 
-  none_still : next_of following ≡ None → still_made following ≡ []
+  pub none_still : next_of following ≡ None → still_made following ≡ []
   none_still is = none_taken (made_by following.run) following.run.events following.taken is
 
   -- an event that is still to be compared is one of the last item

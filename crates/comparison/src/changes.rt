@@ -45,7 +45,7 @@ fn change_of_marks<A: Allocator>(one: &OwnedMark<A>, other: &OwnedMark<A>) -> Ch
 }
 
 /// Whether the second mark is the first one at another place.
-fn is_moved<A: Allocator>(one: &OwnedMark<A>, other: &OwnedMark<A>) -> bool
+pub fn is_moved<A: Allocator>(one: &OwnedMark<A>, other: &OwnedMark<A>) -> bool
     ensures { result ≡ is_moved (shape_of_owned one.now) (shape_of_owned other.now) }
 {
     is_same_at_origin(one, other)

@@ -36,7 +36,7 @@ fn is_equal_mark<A: Allocator>(one: &OwnedEvent<A>, mark: &OwnedMark<A>) -> bool
 }
 
 /// A mark that is kept, as it is lent.
-fn lent<A: Allocator>(mark: &OwnedMark<A>) -> Mark<'_>
+pub fn lent<A: Allocator>(mark: &OwnedMark<A>) -> Mark<'_>
     ensures { shape_of result ≡ shape_of_owned mark.now }
 {
     match mark {

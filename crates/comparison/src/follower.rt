@@ -7,7 +7,7 @@ ghost use Rattle.page_env.specs.declared.text_lines.TextAppearance.{TextAppearan
 ghost use Rattle.comparison.specs.Comparing.{FollowsOn, HasFollowed, IsNextDifference};
 ghost use Rattle.comparison.specs.Comparing.{difference_of, further_difference, lacks_next};
 ghost use Rattle.comparison.specs.Comparing.{next_of, still_made};
-ghost use Rattle.comparison.specs.Running.{IsErrorOfJob, is_open, work};
+ghost use Rattle.comparison.specs.Running.{IsErrorOfJob, RunsOut, failure_of, is_open, work};
 ghost use Rattle.comparison.specs.Texts.{FollowsLines, GoNext};
 ghost use Rattle.sinks.specs.Owned.{event_of};
 ghost use Rattle.streams.specs.Errors.{is_err_of_read};
@@ -24,10 +24,11 @@ use sinks::OwnedEvent;
 use std::alloc::Allocator;
 use std::marker::Model;
 use streams::{Error, Source};
+use verdict::Failure;
 
 /// A job that is carried out as far as what it makes is asked for.
 #[derive(Drop)]
-pub(crate) struct Follower<'p, A: Allocator + Copy, P: Allocator> {
+pub struct Follower<'p, A: Allocator + Copy, P: Allocator> {
     job: RunningJob<'p, A, P>,
     /// So many events of its last item are behind it.
     taken: usize,
@@ -46,12 +47,7 @@ impl<'p, A: Allocator + Copy, P: Allocator> Model for Follower<'p, A, P> {
 
 impl<'p, A: Allocator + Copy, P: Allocator> Follower<'p, A, P> {
     /// A job of which nothing is read, on the printer of this number, from this panel.
-    pub(crate) fn new(
-        alloc: A,
-        profile: &'p Profile<P>,
-        panel: &Panel,
-        number: u64,
-    ) -> Follower<'p, A, P>
+    pub fn new(alloc: A, profile: &'p Profile<P>, panel: &Panel, number: u64) -> Follower<'p, A, P>
         requires { IsAllowed profile.now panel.now }
         ensures run { (first : SourceState) →
             HasFollowed profile.now panel.now first first [] result }
@@ -59,6 +55,27 @@ impl<'p, A: Allocator + Copy, P: Allocator> Follower<'p, A, P> {
     {
         let job = RunningJob::new(alloc, profile, panel, number);
         Follower { job, taken: 0 }
+    }
+
+    /// Where its last item stands.
+    pub fn place(&self) -> Place
+        ensures { result ≡ self.now.run.place }
+    {
+        self.job.place()
+    }
+
+    /// Whether there is more of the job.
+    pub fn is_open(&self) -> bool
+        ensures { result ≡ is_open self.now.run.progress }
+    {
+        self.job.is_open()
+    }
+
+    /// Why the job fails, if it was found to fail.
+    pub fn failure(&self) -> Option<Failure>
+        ensures { result ≡ failure_of self.now.run.progress }
+    {
+        self.job.failure()
     }
 
     /// The job.
@@ -92,7 +109,7 @@ impl<'p, A: Allocator + Copy, P: Allocator> Follower<'p, A, P> {
     /// Goes on until there is an event that is not behind it, or the job is over.
     ///
     /// The errors are those of a step of a job.
-    pub(crate) fn come<S: Source>(&mut self, source: &mut S) -> Result<(), Error>
+    pub fn come<S: Source>(&mut self, source: &mut S) -> Result<(), Error>
         requires { IsFalse (S.state source.old).failed }
         ensures run { OnOk result (FollowsOn (S.state source.old) (S.state source.new)
             self.old self.new) }
@@ -132,6 +149,22 @@ impl<'p, A: Allocator + Copy, P: Allocator> Follower<'p, A, P> {
         self.lacks_next() && !self.job.has_text_next()
     }
 
+    /// Carries out the rest of the job, whatever it makes.
+    ///
+    /// The errors are those of a step of a job.
+    pub fn run_out<S: Source>(&mut self, source: &mut S) -> Result<(), Error>
+        requires { IsFalse (S.state source.old).failed }
+        ensures run { OnOk result (RunsOut (S.state source.old) (S.state source.new)
+            self.old.run self.new.run) }
+        ensures over { OnOk result (is_open self.new.run.progress ≡ false) }
+        ensures number { self.new.run.number ≡ self.old.run.number }
+        ensures read { (S.state source.new).failed ≡ is_err_of_read result }
+        ensures err { IfErr result IsErrorOfJob }
+    {
+        self.taken = 0;
+        self.job.run_out(source)
+    }
+
     /// Whether an event is still to come, and the job is not over.
     pub(crate) fn lacks_next(&self) -> bool
         ensures { result ≡ lacks_next self.now }
@@ -158,14 +191,14 @@ impl<'p, A: Allocator + Copy, P: Allocator> Follower<'p, A, P> {
     }
 
     /// The event that is not behind it, where one has come.
-    fn next(&self) -> Option<&OwnedEvent<A>>
+    pub fn next(&self) -> Option<&OwnedEvent<A>>
         ensures { option_map (λ event. event_of event.now) result ≡ next_of self.now }
     {
         self.job.events().get(self.taken)
     }
 
     /// Goes behind the event that has come.
-    pub(crate) fn pass(&mut self)
+    pub fn pass(&mut self)
         requires { self.old.taken < length self.old.run.events }
         ensures { self.new ≡ record self.old { taken = self.old.taken + 1 } }
     {

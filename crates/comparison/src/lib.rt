@@ -15,6 +15,9 @@ mod running_job;
 mod stepping;
 mod texts;
 
+pub use changes::is_moved;
 pub use compare::{Unread, Which, compare_jobs};
 pub use difference::{Change, Comparison, Difference, Spot};
+pub use events::lent;
+pub use follower::Follower;
 pub use laws::{same_for_all, same_prints_same};

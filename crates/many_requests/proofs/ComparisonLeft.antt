@@ -7,7 +7,8 @@ use Rattle.streams.specs.Ended.{JobRead}
 use Rattle.streams.specs.Files.{no_source}
 use Rattle.streams.specs.Outlet.{OutletState}
 use Rattle.streams.specs.Used.{FileUse, TextsAt, read_of_job}
-use Rattle.many_requests.specs.Comparisons.{LeavesOnFiles, reads_input_twice}
+use Rattle.many_requests.specs.Comparisons.{LeavesOnFiles}
+use Rattle.many_requests.specs.Reads.{reads_input_twice}
 use Rattle.many_requests.proofs.AskedLeft.{uses_all}
 
 -- of jobs and texts of which none was read, where the printers are those that words name

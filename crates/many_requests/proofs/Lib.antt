@@ -2,5 +2,7 @@ mod AskedLeft
 mod Asking
 mod ComparisonLeft
 mod Contained
+mod DrawnLeft
 mod Fleets
+mod GoldenLeft
 mod NameFacts

@@ -1,25 +1,28 @@
-//! A comparison of two jobs by request, on files.
+//! Comparisons of jobs by request, on files.
 
-ghost use Rattle.std.specs.Prelude.{◌≢◌, [], ◌∷◌, ◌++◌, Contains, IfNone, IfSome, IsFalse};
+ghost use Rattle.std.specs.Prelude.{◌≢◌, [], IsFalse, map, option_map};
 ghost use Rattle.compare_command.specs.Compare.{asked_for};
-ghost use Rattle.many_requests.specs.Comparisons.{LeavesComparison, LeavesOnFiles};
-ghost use Rattle.many_requests.specs.Comparisons.{reads_input_twice};
-ghost use Rattle.named_inputs.specs.FileJobs.{is_input};
+ghost use Rattle.compare_command.specs.Golden.{golden_for};
+ghost use Rattle.many_requests.specs.Comparisons.{LeavesComparison, LeavesOnFiles, LeavesPair};
+ghost use Rattle.many_requests.specs.Comparisons.{LeavesWith};
+ghost use Rattle.many_requests.specs.GoldenJobs.{LeavesInFolder, golden_in};
+ghost use Rattle.requests.specs.Comparisons.{NamesCompared};
 
+use crate::drawn_jobs::compare_drawn_on_files;
+use crate::golden_jobs::{compare_golden_jobs, golden_jobs};
+use crate::inputs::READ_FOR_EACH;
 use crate::many::{all_printers, read_fleets};
-use compare_command::{CompareAsked, compare};
-use job_reports::{is_pipe, refuse_pipe};
-use named_inputs::{FileJobs, FileTexts, is_input};
-use requests::{CompareWords, Status};
-use std::io::Input;
+use crate::read_again::gone_once_read;
+use compare_command::{CompareAsked, GoldenAsked, compare};
+use job_reports::refuse_pipe;
+use named_inputs::{FileJobs, FileTexts};
+use requests::{CompareWords, ComparedJobs, Status};
+use std::io::{Input, Print};
 use std::rt::Files;
 use streams::{Error, FilesUsed, Outlet};
 
-/// Why a comparison reads a job again.
-const READ_FOR_EACH: &[u8] = b"compare reads both jobs once for each printer\n";
-
-/// Compares two jobs. The fleets are read first, then the profiles, then the jobs.
-pub fn compare_asked<R: Files + Input + AllocGlobal, O: Outlet, E: Outlet>(
+/// Compares jobs. The fleets are read first, then the profiles, then the jobs.
+pub fn compare_asked<R: Files + Input + Print + AllocGlobal, O: Outlet, E: Outlet>(
     rt: &R,
     words: &CompareWords<'_>,
     used: &mut FilesUsed,
@@ -28,7 +31,7 @@ pub fn compare_asked<R: Files + Input + AllocGlobal, O: Outlet, E: Outlet>(
 ) -> Status
     requires stdout { IsFalse (O.state stdout.old).failed }
     requires stderr { IsFalse (E.state stderr.old).failed }
-    requires some { words.now.printers.items ++ words.now.fleets.items ≢ [] }
+    requires some { NamesCompared words.now }
     ensures { LeavesComparison words.now result used.old used.new
         (O.state stdout.old) (O.state stdout.new) (E.state stderr.old) (E.state stderr.new) }
 {
@@ -42,13 +45,71 @@ pub fn compare_asked<R: Files + Input + AllocGlobal, O: Outlet, E: Outlet>(
     let Ok(printers) = all_printers(alloc, words.printers.as_slice(), fleets.as_slice()) else {
         return Status::Stopped(Error::Memory);
     };
-    let asked = CompareAsked {
-        old_name: words.old_job,
-        new_name: words.new_job,
-        printers: printers.as_slice(),
-        form: words.form,
-    };
-    compare_on_files(rt, &asked, used, stdout, stderr)
+    compare_with(rt, words, printers.as_slice(), used, stdout, stderr)
+}
+
+/// Compares the jobs that words name, on these printers.
+fn compare_with<R: Files + Input + Print + AllocGlobal, O: Outlet, E: Outlet>(
+    rt: &R,
+    words: &CompareWords<'_>,
+    printers: &[&str],
+    used: &mut FilesUsed,
+    stdout: &mut O,
+    stderr: &mut E,
+) -> Status
+    requires stdout { IsFalse (O.state stdout.old).failed }
+    requires stderr { IsFalse (E.state stderr.old).failed }
+    requires some { printers.now ≢ [] }
+    ensures { LeavesWith words.now.jobs words.now (map (λ word. word.now) printers.now) result
+        used.old used.new
+        (O.state stdout.old) (O.state stdout.new) (E.state stderr.old) (E.state stderr.new) }
+{
+    match &words.jobs {
+        ComparedJobs::Pair { old_job, new_job } => {
+            let asked = CompareAsked {
+                old_name: old_job,
+                new_name: new_job,
+                printers,
+                form: words.form,
+                nearness: words.nearness,
+                extent: words.extent,
+                is_named: false,
+            };
+            compare_pair(rt, &asked, words.picture, used, stdout, stderr)
+        }
+        ComparedJobs::Golden { folder, jobs } => {
+            let asked = GoldenAsked {
+                pairs: &[],
+                printers,
+                form: words.form,
+                nearness: words.nearness,
+                extent: words.extent,
+            };
+            compare_in_folder(rt, folder, jobs.as_slice(), &asked, used, stdout, stderr)
+        }
+    }
+}
+
+/// Compares two jobs, and draws what differs in the place of the file at a path, if one is told.
+fn compare_pair<'r, R: Files + Input + Print + AllocGlobal, O: Outlet, E: Outlet>(
+    rt: &'r R,
+    asked: &CompareAsked<'_, 'r>,
+    picture: Option<&'r str>,
+    used: &mut FilesUsed,
+    stdout: &mut O,
+    stderr: &mut E,
+) -> Status
+    requires stdout { IsFalse (O.state stdout.old).failed }
+    requires stderr { IsFalse (E.state stderr.old).failed }
+    requires some { asked.now.printers.now ≢ [] }
+    ensures { LeavesPair (option_map (λ path. path.now) picture.entry) (asked_for asked.now) result
+        used.old used.new
+        (O.state stdout.old) (O.state stdout.new) (E.state stderr.old) (E.state stderr.new) }
+{
+    match picture {
+        Some(path) => compare_drawn_on_files(rt, asked, path, used, stdout, stderr),
+        None => compare_on_files(rt, asked, used, stdout, stderr),
+    }
 }
 
 /// Compares two jobs, unless one would be read again that can be read only once.
@@ -76,22 +137,26 @@ fn compare_on_files<'r, R: Files + Input + AllocGlobal, O: Outlet, E: Outlet>(
     status
 }
 
-/// The job that would be read again, and whose bytes are gone once they are read.
-fn gone_once_read<'n, R: Files>(rt: &R, asked: &CompareAsked<'_, 'n>) -> Option<&'n str>
-    ensures once { IfNone result (IsFalse (reads_input_twice (asked_for asked.now))) }
-    ensures named { IfSome result (λ name. Contains
-        (asked.now.old_name.now ∷ asked.now.new_name.now ∷ []) name.now) }
+/// Compares each of these jobs with the one of its name in a folder; else as it is asked.
+fn compare_in_folder<R: Files + Input + AllocGlobal, O: Outlet, E: Outlet>(
+    rt: &R,
+    folder: &str,
+    jobs: &[&str],
+    asked: &GoldenAsked<'_, '_>,
+    used: &mut FilesUsed,
+    stdout: &mut O,
+    stderr: &mut E,
+) -> Status
+    requires stdout { IsFalse (O.state stdout.old).failed }
+    requires stderr { IsFalse (E.state stderr.old).failed }
+    requires some { asked.now.printers.now ≢ [] }
+    ensures { LeavesInFolder
+        (golden_in folder.now (map (λ job. job.now) jobs.now) (golden_for asked.now))
+        result used.old used.new
+        (O.state stdout.old) (O.state stdout.new) (E.state stderr.old) (E.state stderr.new) }
 {
-    let is_old_gone = is_input(asked.old_name.as_bytes());
-    let is_new_gone = is_input(asked.new_name.as_bytes());
-    if asked.printers.len() <= 1 {
-        return (is_old_gone && is_new_gone).then_some(asked.new_name);
-    }
-    if is_old_gone || is_pipe(rt, asked.old_name.as_bytes()) {
-        return Some(asked.old_name);
-    }
-    if is_new_gone || is_pipe(rt, asked.new_name.as_bytes()) {
-        return Some(asked.new_name);
-    }
-    None
+    let Ok(golden) = golden_jobs(rt.alloc(), folder, jobs) else {
+        return Status::Stopped(Error::Memory);
+    };
+    compare_golden_jobs(rt, golden.as_slice(), asked, used, stdout, stderr)
 }

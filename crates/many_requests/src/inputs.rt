@@ -18,6 +18,9 @@ const INPUT_AGAIN: &[u8] =
 /// Why a check reads a job again.
 const READ_APART: &[u8] = b"--each reads it for each printer, and --notes once more\n";
 
+/// Why a comparison reads a job again.
+pub const READ_FOR_EACH: &[u8] = b"compare reads both jobs once for each printer\n";
+
 /// Refuses to read standard input again, or a job that is no file: of that standard error is told.
 /// `names_from` is the file of the names of the jobs.
 pub fn refuse_inputs<R: Files + AllocGlobal, E: Outlet>(

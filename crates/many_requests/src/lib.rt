@@ -1,11 +1,14 @@
-//! A check of many jobs and a comparison of two by request, on files.
+//! A check of many jobs and comparisons by request, on files.
 #![tactic(auto)]
 
 mod compared_jobs;
+mod drawn_jobs;
+mod golden_jobs;
 mod inputs;
 mod lists;
 mod many;
 mod names;
+mod read_again;
 
 pub use compared_jobs::compare_asked;
 pub use many::check_asked;

@@ -26,3 +26,4 @@ pub use sheet::{
     letter_size, printable_box, push_document_end, push_document_start, push_failure, push_foot,
     push_head, push_page_number, push_sentence,
 };
+pub use texts::push_sentence_text;

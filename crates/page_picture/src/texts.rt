@@ -49,7 +49,7 @@ fn push_byte<A: Allocator>(text: &mut Vec<u8, A>, byte: u8) -> Result<(), AllocE
 }
 
 /// Appends a sentence.
-pub(crate) fn push_sentence_text<A: Allocator>(
+pub fn push_sentence_text<A: Allocator>(
     text: &mut Vec<u8, A>,
     sentence: &[u8],
 ) -> Result<(), AllocError>

@@ -3,7 +3,7 @@
 //! No text means that there is no such line, or no memory for its sentence.
 
 use job_reports::{push_named_first, push_unread};
-use requests::{CompareWords, ManyWords, Request};
+use requests::{CompareWords, ComparedJobs, ManyWords, Request};
 use std::alloc::Global;
 
 /// What a line is about.
@@ -15,6 +15,7 @@ enum Subject {
     UnreadProfile,
     UnreadAnswer,
     UnreadJob,
+    LargeJob,
 }
 
 impl Subject {
@@ -27,6 +28,7 @@ impl Subject {
             Subject::UnreadProfile => "ERROR read profile ",
             Subject::UnreadAnswer => "ERROR read answer ",
             Subject::UnreadJob => "ERROR read job ",
+            Subject::LargeJob => "ERROR memory job ",
         }
     }
 
@@ -39,6 +41,7 @@ impl Subject {
             Subject::UnreadProfile => "this profile cannot be read",
             Subject::UnreadAnswer => "this answer cannot be read",
             Subject::UnreadJob => "this job cannot be read",
+            Subject::LargeJob => "the pages of this job cannot be compared",
         }
     }
 
@@ -46,6 +49,7 @@ impl Subject {
     fn end(self) -> &'static str {
         match self {
             Subject::RefusedFleet => " (ERROR fleet)\n",
+            Subject::LargeJob => " (ERROR memory)\n",
             _ => " (ERROR read)\n",
         }
     }
@@ -94,8 +98,19 @@ fn of_comparison(alloc: Global, words: &CompareWords<'_>, line: &[u8]) -> Option
     if let Some(text) = first_of(alloc, fleets, Subject::RefusedFleet, line) {
         return Some(text);
     }
-    let jobs = [words.old_job, words.new_job];
-    first_of(alloc, &jobs, Subject::UnreadJob, line)
+    match &words.jobs {
+        ComparedJobs::Pair { old_job, new_job } => of_pair(alloc, old_job, new_job, line),
+        ComparedJobs::Golden { .. } => None,
+    }
+}
+
+/// The sentence of a line on one of two jobs.
+fn of_pair(alloc: Global, old_job: &str, new_job: &str, line: &[u8]) -> Option<Vec<u8>> {
+    let jobs = [old_job, new_job];
+    if let Some(text) = first_of(alloc, &jobs, Subject::UnreadJob, line) {
+        return Some(text);
+    }
+    first_of(alloc, &jobs, Subject::LargeJob, line)
 }
 
 /// The sentence of a line on an answer, or on the profile that it is put into.

@@ -118,6 +118,7 @@ fn out_of<'a>(request: &Request<'a>) -> Option<&'a str> {
         Request::Pdf { out, .. } => Some(*out),
         Request::Pin { out, .. } => Some(*out),
         Request::ProfileSheet { out, .. } => Some(*out),
+        Request::Compare(words) => words.picture,
         _ => None,
     }
 }

@@ -1,3 +1,4 @@
+pub mod Comparisons
 pub mod ManyWords
 pub mod Selection
 pub mod Status

@@ -10,7 +10,7 @@ mod selection;
 mod status;
 
 pub use choices::{Choice, PanelSetting};
-pub use compare_words::CompareWords;
+pub use compare_words::{CompareWords, ComparedJobs, Extent, Nearness};
 pub use many_words::{Form, ManyWords};
 pub use new_profile::NewProfile;
 pub use request::Request;

@@ -25,7 +25,7 @@ pub enum Request<'a> {
         jobs: Vec<&'a str>,
         form: Form,
     },
-    /// Whether two jobs print the same.
+    /// Whether jobs print the same.
     Compare(CompareWords<'a>),
     /// The pages of the job at a path, on the printer that a word names.
     Pages {

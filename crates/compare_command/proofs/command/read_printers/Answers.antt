@@ -23,7 +23,7 @@ returns-in-Err-clause-refused g c =
       c.in-Err.ensures.fleet,
       c.in-Err.ensures.given,
       subst
-          (λ (words : List (List ℕ)). TellsRefusal (format_of c.args.asked.now.form) c.in-Err.status words c.tell_refusal.result err err')
+          (λ (words : List (List ℕ)). TellsRefusal (format_of c.args.form) c.in-Err.status words c.tell_refusal.result err err')
           c.many_of-many.ensures.printers told,
     )
 

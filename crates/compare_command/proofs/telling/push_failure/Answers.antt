@@ -1,7 +1,7 @@
 use Rattle.std.proofs.Common.{OnOk, ap, map, ◌≡◌, ◌++◌}
 use Rattle.job_reports.specs.Groups.{Groups}
 use Rattle.job_reports.specs.Reports.{Reported}
-use Rattle.compare_command.specs.Compare.{failure_text}
+use Rattle.compare_command.specs.Telling.{failure_text}
 use Rattle.compare_command.proofs.Names.{of_failure}
 use Rattle.compare_command.proofs.telling.push_failure.Goals as goal
 

@@ -3,11 +3,11 @@ use Rattle.named_inputs.specs.Texts.{text_named}
 use Rattle.many_requests.proofs.Asking.{some_printer}
 use Rattle.many_requests.proofs.Fleets.{fleets_count, fleets_told}
 use Rattle.many_requests.specs.Checks.{ReadsFleets}
-use Rattle.many_requests.specs.Comparisons.{LeavesOnFiles, asked_by, printers_by}
+use Rattle.many_requests.specs.Comparisons.{LeavesWith, printers_by}
 use Rattle.many_requests.proofs.compared_jobs.compare_asked.Goals as goal
 
-pub compare_on_files-requires-clause-some : goal.compare_on_files-requires-clause-some
-compare_on_files-requires-clause-some g c =
+pub compare_with-requires-clause-some : goal.compare_with-requires-clause-some
+compare_with-requires-clause-some g c =
     let words = c.args.words.now in
     let each =
     subst (λ fleets. length (map (λ word. word.now) fleets) ≤ length (map string_bytes c.in-Ok.fleets.items)) c.as_slice.ensures.value
@@ -16,7 +16,7 @@ compare_on_files-requires-clause-some g c =
     ∙ ap (λ all. map (λ word. word.now) all ++ map string_bytes c.as_slice-3.result.now) c.as_slice-2.ensures.value
     ∙ ap (λ fleets. map (λ word. word.now) words.printers.items ++ map string_bytes fleets) c.as_slice-3.ensures.value in
     some_printer words.printers.items words.fleets.items c.in-Ok.fleets.items string_bytes c.as_slice-4.result.now
-    c.requires.some each printers
+    c.requires.some.0 each printers
 
 pub returns : goal.returns
 returns g c =
@@ -40,18 +40,18 @@ returns g c =
       reads.fleets,
       reads.are_fleets,
       subst
-          (λ front. LeavesOnFiles (asked_by words (printers_by words reads.fleets)) c.compare_on_files.result front
-          c.compare_on_files.new.used (g.O.Outlet.state c.args.stdout.now) (g.O.Outlet.state c.compare_on_files.new.stdout)
-          (g.E.Outlet.state c.args.stderr.now) (g.E.Outlet.state c.compare_on_files.new.stderr))
+          (λ front. LeavesWith words.jobs words (printers_by words reads.fleets) c.compare_with.result front
+          c.compare_with.new.used (g.O.Outlet.state c.args.stdout.now) (g.O.Outlet.state c.compare_with.new.stdout)
+          (g.E.Outlet.state c.args.stderr.now) (g.E.Outlet.state c.compare_with.new.stderr))
           told
           (subst
-          (λ all. LeavesOnFiles (asked_by words all) c.compare_on_files.result c.end.new.used c.compare_on_files.new.used
-          (g.O.Outlet.state c.args.stdout.now) (g.O.Outlet.state c.compare_on_files.new.stdout) (g.E.Outlet.state c.args.stderr.now)
-          (g.E.Outlet.state c.compare_on_files.new.stderr))
+          (λ all. LeavesWith words.jobs words all c.compare_with.result c.end.new.used c.compare_with.new.used
+          (g.O.Outlet.state c.args.stdout.now) (g.O.Outlet.state c.compare_with.new.stdout) (g.E.Outlet.state c.args.stderr.now)
+          (g.E.Outlet.state c.compare_with.new.stderr))
           printers
           (subst
-          (λ err. LeavesOnFiles (asked_by words (map (λ word. word.now) c.as_slice-4.result.now)) c.compare_on_files.result c.end.new.used
-          c.compare_on_files.new.used (g.O.Outlet.state c.args.stdout.now) (g.O.Outlet.state c.compare_on_files.new.stdout)
-          (g.E.Outlet.state err) (g.E.Outlet.state c.compare_on_files.new.stderr))
-          c.in-Ok.ensures.quiet c.compare_on_files.ensures)),
+          (λ err. LeavesWith words.jobs words (map (λ word. word.now) c.as_slice-4.result.now) c.compare_with.result c.end.new.used
+          c.compare_with.new.used (g.O.Outlet.state c.args.stdout.now) (g.O.Outlet.state c.compare_with.new.stdout)
+          (g.E.Outlet.state err) (g.E.Outlet.state c.compare_with.new.stderr))
+          c.in-Ok.ensures.quiet c.compare_with.ensures)),
     )

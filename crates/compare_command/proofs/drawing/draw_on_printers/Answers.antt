@@ -1,0 +1,40 @@
+use Rattle.std.proofs.Common.{List, ap, inl, inr, map, refl, subst, ℕ}
+use Rattle.device_profile.specs.Printer.{Printer}
+use Rattle.sinks.specs.Counts.{no_counts}
+use Rattle.compare_command.specs.declared.found.Manner.{Manner}
+use Rattle.compare_command.specs.Compare.{AreCompared, asked_for}
+use Rattle.compare_command.specs.Drawing.{DrawsFound}
+use Rattle.compare_command.proofs.drawing.draw_on_printers.Goals as goal
+
+pub tell_stop-requires-clause-error : goal.tell_stop-requires-clause-error
+tell_stop-requires-clause-error g c = c.in-Err.ensures.stopped
+
+pub returns-in-Ok : goal.returns-in-Ok
+returns-in-Ok g c =
+    let asked = asked_for c.args.asked.now in
+    let found = c.in-Ok.found in
+    inl (
+      found,
+      subst
+          (λ (manner : Manner). AreCompared manner (g.J.Jobs.start c.args.jobs.now) asked.old_name asked.new_name 1
+          c.args.printers.now.fleet.items no_counts found (g.J.Jobs.ended c.args.jobs.now) (g.J.Jobs.ended c.find.new.jobs))
+          c.drawn_manner-manner.ensures
+          (subst
+          (λ (fleet : List Printer). AreCompared c.drawn_manner-manner.result (g.J.Jobs.start c.args.jobs.now) asked.old_name
+          asked.new_name 1 fleet no_counts found (g.J.Jobs.ended c.args.jobs.now) (g.J.Jobs.ended c.find.new.jobs))
+          c.as_slice-fleet.ensures.value c.in-Ok.ensures.found),
+      subst
+          (λ (names : List (List ℕ)). DrawsFound asked c.args.printers.now.fleet.items names found c.draw_found.result
+          (g.D.Outlet.state c.args.out.now) (g.D.Outlet.state c.draw_found.new.out) (g.O.Outlet.state c.args.stdout.now)
+          (g.O.Outlet.state c.draw_found.new.stdout))
+          (ap (map (λ name. name.items)) c.as_slice-names.ensures.value)
+          (subst
+          (λ (fleet : List Printer). DrawsFound asked fleet (map (λ name. name.items) c.as_slice-names.result.now) found
+          c.draw_found.result (g.D.Outlet.state c.args.out.now) (g.D.Outlet.state c.draw_found.new.out)
+          (g.O.Outlet.state c.args.stdout.now) (g.O.Outlet.state c.draw_found.new.stdout))
+          c.as_slice-fleet.ensures.value c.draw_found.ensures),
+      refl,
+    )
+
+pub returns-in-Err : goal.returns-in-Err
+returns-in-Err g c = inr (c.tell_stop-status.ensures, refl, refl, refl)

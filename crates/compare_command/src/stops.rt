@@ -1,0 +1,168 @@
+//! Why two jobs are not compared.
+
+ghost use Rattle.std.specs.Prelude.{◌≡◌, ◌⊎◌, IsFalse};
+ghost use Rattle.comparison.specs.Running.{IsErrorOfJob};
+ghost use Rattle.compare_command.specs.Compare.{StopsAt, asked_for};
+ghost use Rattle.compare_command.specs.Golden.{name_by};
+ghost use Rattle.job_reports.specs.Refusals.{TellsUnread};
+ghost use Rattle.page_comparison.specs.Reading.{IsErrorOfPages};
+
+use crate::asked::CompareAsked;
+use comparison::{Unread, Which};
+use job_reports::push_unread;
+use named_inputs::system_words::system_words;
+use page_comparison::{MOST_MARKS, PagesError};
+use requests::{Status, Trouble};
+use std::alloc::Global;
+use std::io;
+use streams::{Error, Outlet, Source, write_text};
+
+/// Why two jobs are not compared.
+#[derive(Drop)]
+pub(crate) struct Stop {
+    pub which: Which,
+    pub error: Error,
+    /// What is known of that, where it can be told.
+    pub cause: Option<String>,
+}
+
+/// One of two jobs was not read to its end.
+pub(crate) fn stop_of_reading<S: Source>(
+    alloc: Global,
+    old_job: &S,
+    new_job: &S,
+    unread: Unread,
+) -> Stop
+    requires { IsErrorOfJob unread.error }
+    ensures { IsErrorOfJob result.error }
+{
+    Stop {
+        which: unread.which,
+        error: unread.error,
+        cause: system_words(alloc, error_of(old_job, new_job, unread.which)),
+    }
+}
+
+/// Why a read of this one of two jobs failed, where the system tells it.
+fn error_of<S: Source>(old_job: &S, new_job: &S, which: Which) -> Option<io::Error> {
+    match which {
+        Which::Old => old_job.error(),
+        Which::New => new_job.error(),
+    }
+}
+
+/// The pages of two jobs are not compared: one was not read to its end, or has a page with more
+/// marks than are held; or there was no memory for marks or for differences.
+pub(crate) fn stop_of_pages<S: Source>(
+    alloc: Global,
+    old_job: &S,
+    new_job: &S,
+    error: PagesError,
+) -> Stop
+    requires { IsErrorOfPages error }
+    ensures { IsErrorOfJob result.error }
+{
+    match error {
+        PagesError::Unread(unread) => stop_of_reading(alloc, old_job, new_job, unread),
+        PagesError::TooManyMarks(page) => Stop {
+            which: page.which,
+            error: Error::Memory,
+            cause: page_words(alloc, page.page),
+        },
+        PagesError::Memory => Stop {
+            which: Which::Old,
+            error: Error::Memory,
+            cause: None,
+        },
+    }
+}
+
+/// The words on a page with so many marks, where there is memory for them.
+fn page_words(alloc: Global, page: u64) -> Option<String> {
+    let most = MOST_MARKS;
+    format!(in alloc; "page {page} has more than {most} marks").ok()
+}
+
+/// The name of this one of two jobs.
+pub(crate) fn name_by<'n>(asked: &CompareAsked<'_, 'n>, which: Which) -> &'n str
+    ensures { result.now ≡ name_by (asked_for asked.now) which }
+{
+    match which {
+        Which::Old => asked.old_name,
+        Which::New => asked.new_name,
+    }
+}
+
+/// Tells standard error why two jobs are not compared, where that is known of one of them.
+pub(crate) fn tell_stop<E: Outlet>(
+    alloc: Global,
+    asked: &CompareAsked<'_, '_>,
+    stop: &Stop,
+    stderr: &mut E,
+) -> Status
+    requires error { IsErrorOfJob stop.now.error }
+    requires stderr { IsFalse (E.state stderr.old).failed }
+    ensures { StopsAt asked.now.old_name.now result (E.state stderr.old) (E.state stderr.new)
+        ⊎ StopsAt asked.now.new_name.now result (E.state stderr.old) (E.state stderr.new) }
+{
+    let cause = stop.cause.as_ref().map(|words| words.as_bytes());
+    match stop.which {
+        Which::Old => tell_stop_of(alloc, asked.old_name, stop.error, cause, stderr),
+        Which::New => tell_stop_of(alloc, asked.new_name, stop.error, cause, stderr),
+    }
+}
+
+/// Tells standard error why the job of this name is not compared, where that is known.
+fn tell_stop_of<E: Outlet>(
+    alloc: Global,
+    name: &str,
+    error: Error,
+    cause: Option<&[u8]>,
+    stderr: &mut E,
+) -> Status
+    requires error { IsErrorOfJob error }
+    requires stderr { IsFalse (E.state stderr.old).failed }
+    ensures { StopsAt name.now result (E.state stderr.old) (E.state stderr.new) }
+{
+    match error {
+        Error::Read => tell_cause(alloc, b"ERROR read job ", name, cause, stderr),
+        Error::Memory => tell_of_memory(alloc, name, cause, stderr),
+        _ => Status::Stopped(error),
+    }
+}
+
+/// Tells standard error what it is of a job for which there is no memory, where that is known.
+fn tell_of_memory<E: Outlet>(
+    alloc: Global,
+    name: &str,
+    cause: Option<&[u8]>,
+    stderr: &mut E,
+) -> Status
+    requires { IsFalse (E.state stderr.old).failed }
+    ensures { StopsAt name.now result (E.state stderr.old) (E.state stderr.new) }
+{
+    match cause {
+        Some(_) => tell_cause(alloc, b"ERROR memory job ", name, cause, stderr),
+        None => Status::Stopped(Error::Memory),
+    }
+}
+
+/// Tells standard error behind this front what of the job of a name could not be had, and why.
+fn tell_cause<E: Outlet>(
+    alloc: Global,
+    front: &[u8],
+    name: &str,
+    cause: Option<&[u8]>,
+    stderr: &mut E,
+) -> Status
+    requires { IsFalse (E.state stderr.old).failed }
+    ensures { TellsUnread front.now name.now result (E.state stderr.old) (E.state stderr.new) }
+{
+    let mut text = Vec::new(alloc);
+    if push_unread(&mut text, front, name, cause).is_err() {
+        return Status::Stopped(Error::Memory);
+    }
+    // Where standard error takes nothing, the status alone is left to tell.
+    let _ = write_text(stderr, text.as_slice());
+    Status::Told(Trouble::NoVerdict)
+}

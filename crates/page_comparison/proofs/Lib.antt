@@ -1,0 +1,10 @@
+pub mod Alike
+pub mod Ending
+pub mod Finding
+pub mod Free
+pub mod Keeping
+pub mod Near
+pub mod PageSteps
+pub mod Relations
+pub mod Steps
+pub mod Turns

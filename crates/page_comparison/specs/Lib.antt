@@ -1,0 +1,9 @@
+pub mod AnyOrder
+pub mod Comparison
+pub mod InOrder
+pub mod Kept
+pub mod Laws
+pub mod Marks
+pub mod Pages
+pub mod Reading
+pub mod Told
