@@ -17,7 +17,8 @@ use Rattle.pclcheck_c.specs.declared.rows.Refusal.{Refusal}
 use Rattle.pclcheck_c.specs.declared.rows.VerdictRow.{VerdictRow}
 use Rattle.pclcheck_c.specs.declared.told.Told.{Told}
 use Rattle.pclcheck_c.specs.declared.why.Why.{Why}
-use Rattle.pclcheck_c.specs.declared.why.Why.TheVariants.{Stopped, Refused, NotAllowed, NoField, NoPage, Unheard, NotText}
+use Rattle.pclcheck_c.specs.declared.why.Why.TheVariants.{Stopped, Refused, NotAllowed, NoField, NoPage, Unheard}
+use Rattle.pclcheck_c.specs.declared.why.Why.TheVariants.{NotText}
 
 -- ---- numbers
 

@@ -1,6 +1,5 @@
 -- What the calls on fleets leave.
-use Rattle.std.specs.Prelude.{◌≡◌, ◌⊎◌, ◌+◌, ℕ, List, [], ◌∷◌, ◌++◌, length, map, false, Option, Some, Result, Ok, Err, IfOk}
-use Rattle.std.specs.Prelude.{IfErr}
+use Rattle.std.specs.Prelude.{◌≡◌, ◌⊎◌, ◌+◌, ℕ, List, [], ◌∷◌, ◌++◌, length, map, Option, Some, Result, Ok, IfOk, IfErr}
 use Rattle.device_profile.specs.Name.{printer_name}
 use Rattle.device_profile.specs.Printer.{Printer}
 use Rattle.device_profile.specs.Text.{printer_of_text}
@@ -8,7 +7,6 @@ use Rattle.pclcheck_c.specs.declared.fleet.Fleet.{Fleet}
 use Rattle.pclcheck_c.specs.declared.rows.Refusal.{Refusal}
 use Rattle.pclcheck_c.specs.declared.why.Why.{Why}
 use Rattle.pclcheck_c.specs.Answers.{IsWhyOf, refusal_by, work_number}
-use Rattle.pclcheck_c.specs.Checked.{groups_of}
 
 -- the names of the printers
 abbrev pub names_of : Fleet → List (List ℕ)

@@ -1,0 +1,24 @@
+use Rattle.std.proofs.Common.{◌≡◌, ◌++◌, ◌∙◌, Bool, true, false, ap, refl, sym}
+use Rattle.meanings.specs.Explanations.{end_of_explain}
+use Rattle.requests.specs.declared.status.Status.TheVariants.{Help, Usage}
+use Rattle.pclcheck_c.proofs.explaining.explained_of.Goals as goal
+
+helped : (unheard failed : Bool) → end_of_explain unheard failed ≡ Help → (unheard ≡ false) × (failed ≡ false)
+helped false false is = (refl, refl)
+helped false true is = cc
+helped true failed is = cc
+
+refused : (unheard failed : Bool) → end_of_explain unheard failed ≡ Usage → unheard ≡ true
+refused true failed is = refl
+refused false false is = cc
+refused false true is = cc
+
+pub returns-in-Help-clause-explained : goal.returns-in-Help-clause-explained
+returns-in-Help-clause-explained c =
+    let said = c.explain.ensures in
+    let ends = helped _ _ (sym said.status ∙ c.in-Help.is) in
+    let adds = (said.text ends.0).whole ends.1 in
+    (ends.0, c.into_bytes.ensures ∙ (adds.taken ∙ ap (λ front. front ++ _) c.new-text.ensures.bytes))
+
+pub returns-in-Usage-clause-why : goal.returns-in-Usage-clause-why
+returns-in-Usage-clause-why c = refused _ _ (sym c.explain.ensures.status ∙ c.in-Usage.is)
