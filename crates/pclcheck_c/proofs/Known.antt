@@ -24,7 +24,8 @@ use Rattle.pclcheck_c.specs.Checked.{IsJudged}
 use Rattle.pclcheck_c.specs.Texts.{IsWrittenWithLine}
 
 -- what holds of every job that may be by the reads holds of the one that was known
-pub known_by : (start after : SourceState) (job : List ℕ) (P : List ℕ → Type 0) → ByReads start after P → start.remaining ≡ Some job → P job
+pub known_by : (start after : SourceState) (job : List ℕ) (P : List ℕ → Type 0) → ByReads start after P → start.remaining ≡ Some job
+    → P job
 known_by start after job P by is = by.each job (subst (λ known. IfSome known (MayBeBy by.pieces)) is by.known)
 
 -- ---- texts
@@ -40,7 +41,8 @@ module _ (rendering : Rendering) (start after : SourceState) (kept kept' : Outle
       (known_by start after job (λ bytes. IsExpected rendering bytes due.text outcome) due.due known)
 
   -- and so with the line of the failure behind it
-  pub told_with_line : (outcome : Outcome) (text : List ℕ) (work : Result Told Why) → Renders rendering start after kept kept' (Ok outcome) →
+  pub told_with_line : (outcome : Outcome) (text : List ℕ) (work : Result Told Why)
+      → Renders rendering start after kept kept' (Ok outcome) →
       start.remaining ≡ Some job → kept.taken ≡ [] → text ≡ kept'.taken →
       IfOk work (λ told. (told.row ≡ outcome_row outcome) × (told.text.items ≡ text ++ outcome_line outcome)) →
       IfOk work (IsWrittenWithLine rendering job)
@@ -63,7 +65,8 @@ pub stops_for : {T : Type 0} (number : ℕ) (text : List ℕ) (work : Result T W
 stops_for number text (Ok done) stops = tt
 stops_for number text (Err why) stops = stop_is_why number text why stops
 
-pub why_of_fault : (number : ℕ) (text : List ℕ) (fault : ProfileFault) → IsErrorOfText text fault → IsWhyOf number text (why_of number fault)
+pub why_of_fault : (number : ℕ) (text : List ℕ) (fault : ProfileFault) → IsErrorOfText text fault
+    → IsWhyOf number text (why_of number fault)
 why_of_fault number text (Fault line cause) is = (refl, is)
 why_of_fault number text Memory is = tt
 
