@@ -1,5 +1,5 @@
 -- What the calls that check a job answer and leave.
-use Rattle.std.specs.Prelude.{◌≡◌, ◌↔◌, ◌-◌, ◌==◌, ℕ, List, [], map, false, true, if◌then◌else◌, Result, Ok, Err, IfOk}
+use Rattle.std.specs.Prelude.{◌≡◌, ◌↔◌, ◌-◌, ◌==◌, ℕ, List, [], map, false, true, if◌then◌else◌, Bool, Result, Ok, Err, IfOk}
 use Rattle.std.specs.Prelude.{None}
 use Rattle.device_profile.specs.Printer.{Printer}
 use Rattle.job_reports.specs.Groups.{Groups, group_at, reported}
