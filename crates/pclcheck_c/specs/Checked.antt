@@ -1,6 +1,6 @@
 -- What the calls that check a job answer and leave.
-use Rattle.std.specs.Prelude.{◌≡◌, ◌↔◌, ◌-◌, ◌==◌, ℕ, List, [], map, false, true, if◌then◌else◌, Bool, Result, Ok, Err, IfOk}
-use Rattle.std.specs.Prelude.{None}
+use Rattle.std.specs.Prelude.{◌≡◌, ◌↔◌, ◌-◌, ◌==◌, ℕ, List, [], map, false, true, if◌then◌else◌, Bool, Result, Ok, Err}
+use Rattle.std.specs.Prelude.{IfOk, None}
 use Rattle.device_profile.specs.Printer.{Printer}
 use Rattle.job_reports.specs.Groups.{Groups, group_at, reported}
 use Rattle.job_reports.specs.JobSentences.{job_sentence}
