@@ -2,7 +2,6 @@
 use Rattle.std.specs.Prelude.{◌≡◌, ◌==◌, ◌⊎◌, ℕ, List, [], Some, false, if◌then◌else◌, ⊤}
 use Rattle.named_inputs.specs.Fleet.{IsNamed}
 use Rattle.picture_command.specs.Picture.{BeforeAndAfter, IsNamedBy, LeavesPicture}
-use Rattle.requests.specs.declared.selection.DrawnPages.{DrawnPages}
 use Rattle.requests.specs.declared.selection.DrawnPages.TheVariants.{All, One}
 use Rattle.requests.specs.declared.selection.Selection.{Selection}
 use Rattle.requests.specs.declared.status.Status.{Status}
