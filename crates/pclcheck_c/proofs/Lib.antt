@@ -1,0 +1,3 @@
+mod AsBox
+mod Known
+mod Pictures

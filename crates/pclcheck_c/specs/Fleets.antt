@@ -1,0 +1,47 @@
+-- What the calls on fleets leave.
+use Rattle.std.specs.Prelude.{◌≡◌, ◌⊎◌, ◌+◌, ℕ, List, [], ◌∷◌, ◌++◌, length, map, Option, Some, Result, Ok, IfOk, IfErr}
+use Rattle.device_profile.specs.Name.{printer_name}
+use Rattle.device_profile.specs.Printer.{Printer}
+use Rattle.device_profile.specs.Text.{printer_of_text}
+use Rattle.pclcheck_c.specs.declared.fleet.Fleet.{Fleet}
+use Rattle.pclcheck_c.specs.declared.rows.Refusal.{Refusal}
+use Rattle.pclcheck_c.specs.declared.why.Why.{Why}
+use Rattle.pclcheck_c.specs.Answers.{IsWhyOf, refusal_by, work_number}
+
+-- the names of the printers
+abbrev pub names_of : Fleet → List (List ℕ)
+names_of fleet = map (λ name. name.items) fleet.names.items
+
+-- no printer
+pub record HasNone (fleet : Fleet) : Type 0 where
+  pub printers : fleet.profiles.items ≡ []
+  pub names : names_of fleet ≡ []
+
+-- the same printers, with the same names
+pub record IsSame (old new : Fleet) : Type 0 where
+  pub printers : new.profiles.items ≡ old.profiles.items
+  pub names : names_of new ≡ names_of old
+
+-- and behind them the one that this text describes
+pub record IsWith (text : List ℕ) (old new : Fleet) : Type 0 where
+  pub printer : Printer
+  pub described : printer_of_text text ≡ Ok printer
+  pub printers : new.profiles.items ≡ old.profiles.items ++ printer ∷ []
+  pub names : names_of new ≡ names_of old ++ printer_name text ∷ []
+
+-- where a printer does not come into a fleet that is the same, this is why
+abbrev pub IsRefusedBy : (text : List ℕ) → (old new : Fleet) → Why → Type 0
+IsRefusedBy text old new why = IsSame old new × IsWhyOf (length old.profiles.items + 1) text why
+
+-- what a call leaves that makes a fleet
+abbrev pub IsMade : (number : ℕ) → (held held' : Option Fleet) → Type 0
+IsMade number held held' =
+    ((number ≡ 0) × (fleet : Fleet) × (held' ≡ Some fleet) × HasNone fleet) ⊎ ((number ≡ 2) × (held' ≡ held))
+
+-- what a call leaves that adds a printer
+pub record Adds (text : List ℕ) (number : ℕ) (old new : Fleet) (refusal refusal' : Refusal) : Type 0 where
+  pub work : Result (Unit {0}) Why
+  pub added : IfOk work (λ _. IsWith text old new)
+  pub refused : IfErr work (IsRefusedBy text old new)
+  pub number_is : number ≡ work_number work
+  pub refusal_is : refusal' ≡ refusal_by refusal work
