@@ -153,6 +153,7 @@ def texts_due(program: Program) -> Dict[str, Tuple[int, Optional[Tuple[int, ...]
     each = program.sentence("--each").splitlines(keepends=True)
     alone = [program.run("check", "job", printer).output for printer in program.printers]
     due = {"check": (DONE, verdict_in(check), b""),
+           "version": (DONE, None, program.run("--version").output.split()[1]),
            "explain": (DONE, None, program.run("explain", "12").output),
            "tell": (DONE, verdict_in(check), program.sentence()),
            "tell-first": (DONE, verdict_in(alone[0]), each[0]),

@@ -15,9 +15,11 @@
 
 enum { MOST_COPIES = 9999 };
 
+/* CUPS shows its own words for the job, where it sees the end of the filter before it reads why. */
 static int stop(const char *sentence)
 {
     fprintf(stderr, "ERROR: preflight: %s\n", sentence);
+    sleep(1);
     return EXIT_FAILURE;
 }
 

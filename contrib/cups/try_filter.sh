@@ -40,5 +40,5 @@ say 'filter: no such fleet: the job is stopped' \
     stops "$cups/fleets/filtered-gone.fleet: No such file or directory"
 say 'filter: and nothing of it is printed' prints_nothing
 cp "$cups/fleets/front.fleet" "$cups/fleets/filtered-gone.fleet"
-lp -i "$name" -H resume || lp -i "$name" -H restart || :
+lp -i "$name" -H restart || :
 say 'filter: tried again with a fleet, it is printed' prints "$job"
