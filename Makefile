@@ -37,7 +37,7 @@ pclcheck 644 contrib/README.md $(DOCUMENTS)/contrib
 pclcheck 644 contrib/cups/README.md contrib/cups/pclgate $(DOCUMENTS)/contrib/cups
 pclcheck 644 contrib/hotfolder/README.md contrib/hotfolder/hotfolder.py $(DOCUMENTS)/contrib/hotfolder
 pclcheck 644 contrib/parallel/README.md contrib/parallel/check_everywhere $(DOCUMENTS)/contrib/parallel
-pclcheck 644 contrib/c/gate.c contrib/c/gate.h $(DOCUMENTS)/contrib/c
+pclcheck 644 contrib/c/check.c contrib/c/gate.c contrib/c/gate.h $(DOCUMENTS)/contrib/c
 pclcheck 644 contrib/cups/pclfilter.c contrib/cups/pclfilter.ppd $(DOCUMENTS)/contrib/cups
 pclcheck 644 contrib/pappl/README.md contrib/pappl/pclprinter.c $(DOCUMENTS)/contrib/pappl
 pclcheck 644 contrib/python/README.md contrib/python/pclcheck.py $(DOCUMENTS)/contrib/python
@@ -154,7 +154,7 @@ dist: program lib committed
 deb: export SOURCE_DATE_EPOCH = $(TIME)
 deb: program lib committed
 	set -e; for package in $(PACKAGES); do $(MAKE) --no-print-directory pack-$$package; done
-	rm -rf $(ROOT) dist/md5sums dist/substvars dist/files
+	rm -rf $(ROOT) dist/md5sums dist/substvars dist/files dist/binaries
 
 pack-%: OF = $(ROOT)/usr/share/doc/$*
 pack-%:
