@@ -3,7 +3,7 @@
  *     library answers JOB PROFILE..   writes what each call answers
  *     library rooms JOB PROFILE..     tries rooms that are too short, just long enough, and longer
  *     library memory JOB PROFILE..    refuses each request for memory in turn
- *     library threads JOB PROFILE..   makes the calls on eight threads, each with a fleet of its own
+ *     library threads JOB PROFILE..   makes the calls on eight threads, each with its own fleet
  *
  * What is wrong is told on standard error, and the status is 1. It is linked with the words
  * -Wl,--wrap=malloc,--wrap=realloc,--wrap=free, so that the library's requests are seen here.
@@ -182,7 +182,7 @@ static void try_rooms(struct subject *subject)
 
 /* ---- memory */
 
-/* Refuses the request of this number to a call that would give `due`; false where it makes fewer. */
+/* Refuses the request of this number to a call; false where it makes fewer. */
 static bool try_refused(const struct call *call, struct subject *subject, size_t number,
                         struct guarded room)
 {

@@ -25,9 +25,9 @@ bool gate_read(int file, struct gate_bytes *read, char *cause, size_t room);
 /* Puts so many copies of the bytes in their place, with nothing between them. */
 bool gate_repeat(struct gate_bytes *job, unsigned copies);
 
-/* Reads the fleet of a queue, FOLDER/QUEUE.fleet, a text with the path of a profile a line; FOLDER
-   is PCLCHECK_FLEETS, or /etc/pclcheck. Where it says false, `cause` says why, and there is nothing
-   to free. */
+/* Reads the fleet of a queue, FOLDER/QUEUE.fleet, a text with the path of a profile a line;
+   FOLDER is PCLCHECK_FLEETS, or /etc/pclcheck. Where it says false, `cause` says why, and there is
+   nothing to free. */
 bool gate_open(const char *queue, struct pclcheck_fleet *fleet, char *cause, size_t room);
 
 /* Checks a job for a fleet, and puts what is told of it, a sentence without the name of the job. */

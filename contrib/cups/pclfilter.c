@@ -1,8 +1,8 @@
-/* A filter of CUPS: hands on a job of PCL 5 that each printer of the queue's fleet prints, and stops
-   any other with the sentence that says why.
+/* A filter of CUPS: hands on a job of PCL 5 that each printer of the queue's fleet prints, and
+   stops any other with the sentence that says why.
 
-   CUPS calls it with JOB USER TITLE COPIES OPTIONS [FILE], and the queue in PRINTER. Its exit status
-   is 1 where the job is stopped. */
+   CUPS calls it with JOB USER TITLE COPIES OPTIONS [FILE], and the queue in PRINTER. Its exit
+   status is 1 where the job is stopped. */
 #define _DEFAULT_SOURCE
 #include "gate.h"
 
@@ -15,7 +15,7 @@
 
 enum { MOST_COPIES = 9999 };
 
-/* CUPS shows its own words for the job, where it sees the end of the filter before it reads why. */
+/* CUPS shows words of its own where it sees the end of the filter before it reads why. */
 static int stop(const char *sentence)
 {
     fprintf(stderr, "ERROR: preflight: %s\n", sentence);
@@ -23,7 +23,7 @@ static int stop(const char *sentence)
     return EXIT_FAILURE;
 }
 
-/* How often the job is printed: a job on standard input has its copies. 0 where CUPS says nonsense. */
+/* How often the job is printed; 0 where CUPS says nonsense. On standard input it has its copies. */
 static unsigned copies_of(int argc, char *argv[])
 {
     char *end;

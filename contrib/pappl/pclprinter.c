@@ -1,6 +1,6 @@
-/* A printer application: takes jobs of PCL 5 by IPP, and hands those to a printer that each printer
-   of the queue's fleet prints. A job that fails is aborted, and the sentence that says why is its
-   job-state-message. */
+/* A printer application: takes jobs of PCL 5 by IPP, and hands those to a printer that each
+   printer of the queue's fleet prints. A job that fails is aborted, and the sentence that says why
+   is its job-state-message. */
 #define _DEFAULT_SOURCE
 #include "gate.h"
 
@@ -18,8 +18,9 @@ enum { DOTS_AN_INCH = 300, PAGES_A_MINUTE = 20 };
 static const char USAGE[] =
     "Usage: pclprinter [-h HOST] [-p PORT] [-s FOLDER] [-l LOG] QUEUE=DEVICE ..\n"
     "\n"
-    "Takes jobs of PCL 5 by IPP at ipp://HOST:PORT/ipp/print/QUEUE, checks each for the printers of\n"
-    "/etc/pclcheck/QUEUE.fleet, and hands it to DEVICE, as socket://10.0.0.7:9100, where it passes.\n"
+    "Takes jobs of PCL 5 at ipp://HOST:PORT/ipp/print/QUEUE, checks each for the printers of\n"
+    "/etc/pclcheck/QUEUE.fleet, and hands it to DEVICE, as socket://10.0.0.7:9100, where it\n"
+    "passes.\n"
     "\n"
     "  -h HOST    the name by which it listens (localhost); * for all\n"
     "  -p PORT    the port (8631)\n"
@@ -123,7 +124,7 @@ static bool refuse_line(pappl_job_t *job, pappl_pr_options_t *options, pappl_dev
 
 /* ---- the printer */
 
-/* PCL has no first bytes of its own: what the framework does not know is taken for PCL, and checked. */
+/* PCL has no first bytes of its own: what the framework does not know is PCL, and is checked. */
 static const char *type_of(const unsigned char *header, size_t length, void *data)
 {
     (void)header;

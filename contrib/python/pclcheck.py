@@ -70,8 +70,8 @@ class Error(Exception):
 class ProfileRefused(Error):
     """The text of a profile is refused.
 
-    `number` counts the profiles of a fleet from 1, and `line` the lines of the text, where 0 is the
-    text as a whole.
+    `number` counts the profiles of a fleet from 1, and `line` the lines of the text, where 0 is
+    the text as a whole.
     """
 
     def __init__(self, number: int, line: int, cause: Cause) -> None:
@@ -96,8 +96,8 @@ class Verdict:
     """What came of a job; it is true where nothing is wrong.
 
     Where the job fails, `place` counts the bytes before the failure, `printer` the printers of the
-    fleet from 1, and is 0 where the bytes themselves are wrong, and `number` is that of the fault or
-    finding, of which `explain` tells more. `sentence` is what a check says of the job.
+    fleet from 1, and is 0 where the bytes themselves are wrong, and `number` is that of the fault
+    or finding, of which `explain` tells more. `sentence` is what a check says of the job.
     """
 
     pages: int
@@ -249,8 +249,8 @@ class Fleet:
         return cls(*(Path(path).read_bytes() for path in paths))
 
     def add(self, profile: bytes) -> None:
-        """Adds the printer that a text describes. Raises ProfileRefused, and then the fleet is as it
-        was."""
+        """Adds the printer that a text describes. Raises ProfileRefused, and then the fleet is as
+        it was."""
         refusal = _Refusal()
         with self._lock:
             answer = _call("pclcheck_fleet_add", self._open(), *_bytes(profile),
@@ -306,8 +306,9 @@ def version() -> str:
 
 
 def explain(code: Union[int, str] = "") -> str:
-    """What a number or a name of a finding or a note, or a command of printers, means; of `commands`
-    the list of these, and of nothing all that findings and notes mean. Raises Unknown."""
+    """What a number or a name of a finding or a note, or a command of printers, means; of
+    `commands` the list of these, and of nothing all that findings and notes mean. Raises Unknown.
+    """
     return _text("pclcheck_explain", *_bytes(str(code).encode())).decode()
 
 
