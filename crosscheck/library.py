@@ -3,23 +3,25 @@
 
     python3 crosscheck/library.py PROGRAM COUNT SEED
 
-COUNT random jobs and their fleets, and each example, go through each call of the library: the
-numbers and the bytes of each text have to be those of the program's commands, and a room has to be
-as long as the call said. Of every tenth job (and of each example) rooms are tried that are too
-short or too long, each request for memory is refused in turn, and eight threads make the calls
-side by side: as it is, and with the sanitizers of the compiler and valgrind, where there are some.
+The header has to be C and C++, and the shared library to have the names of its calls alone. COUNT
+random jobs and their fleets, and each example, go through each call: the numbers and the bytes of
+each text have to be those of the program's commands, and a room has to be as long as the call said.
+Of every tenth job (and of each example) rooms are tried that are too short or too long, each
+request for memory is refused in turn, and eight threads make the calls side by side: as it is, and
+with the sanitizers of the compiler and valgrind, where there are some.
 What the program says of itself is trusted here; `run.py` compares that. Needs `cc`, make, binutils
 and what `make build` built, and without cc compares nothing. Prints each difference and at last
 `N compared, M differ`, where N counts jobs. The exit status is 0 where M is 0, else 1.
 """
 
 import os
+import re
 import shutil
 import subprocess
 import sys
 import tempfile
 from pathlib import Path
-from typing import Dict, List, NamedTuple, Optional, Tuple
+from typing import Dict, Iterator, List, NamedTuple, Optional, Tuple
 
 sys.dont_write_bytecode = True
 
@@ -42,6 +44,29 @@ BUILDS: Dict[str, Tuple[Tuple[str, ...], Tuple[str, ...]]] = {
                 ("answers", "rooms", "memory", "threads")),
     "thread": (("-fsanitize=thread",), ("threads",)),
 }
+
+
+def told_by(*words) -> str:
+    """What a command writes, and that it fails."""
+    run = subprocess.run(words, capture_output=True, text=True, check=False)
+    return run.stdout + run.stderr + (f"status {run.returncode}" if run.returncode else "")
+
+
+def faults_of_built() -> Iterator[str]:
+    """What is wrong with the header and with the shared library."""
+    header = ROOT / "include" / "pclcheck.h"
+    for compiler, *words in (("cc", "-x", "c", "-std=c11"), ("c++", "-x", "c++", "-std=c++11")):
+        if shutil.which(compiler):
+            told = told_by(compiler, *words, "-pedantic", "-Wall", "-fsyntax-only", header)
+            if told:
+                yield told
+    shared = BUILT / "libpclcheck.so.0"
+    due = re.findall(r"^ +(pclcheck_\w+);$", (ROOT / "include" / "pclcheck.map").read_text(), re.M)
+    came = re.findall(r" T (\w+)", told_by("nm", "-D", "--defined-only", shared))
+    if sorted(due) != sorted(came):
+        yield f"{shared.name} has the names {came}"
+    if "[libpclcheck.so.0]" not in told_by("readelf", "-d", shared):
+        yield f"{shared.name} has another soname"
 
 
 class Answer(NamedTuple):
@@ -248,6 +273,8 @@ def main(program: str, count: int, seed: str) -> int:
         print("library: there is no cc: nothing is compared")
         return 0
     subprocess.run(["make", "-s", "lib"], cwd=ROOT, check=True)
+    wrong = list(faults_of_built())
+    print("".join(f"{line}\n" for line in wrong), end="")
     with tempfile.TemporaryDirectory() as name:
         callers = Callers(Path(name))
         comparison = Comparison(str(Path(program).resolve()), callers, Path(name))
@@ -263,7 +290,7 @@ def main(program: str, count: int, seed: str) -> int:
                                    number % TRIED_EACH == 0)
             number += 1
     print(f"{comparison.done} compared, {comparison.differ} differ")
-    return 1 if comparison.differ else 0
+    return 1 if comparison.differ or wrong else 0
 
 
 if __name__ == "__main__":
