@@ -270,6 +270,7 @@ static void *make_calls(void *given)
         }
     }
     subject_free(&subject);
+    work->differs |= held != 0;
     return NULL;
 }
 
@@ -291,7 +292,7 @@ static void try_threads(struct subject *subject, char *paths[], int count)
     for (int at = 0; at < THREADS; at++) {
         pthread_join(threads[at], NULL);
         if (works[at].differs)
-            tell_wrong("threads", "a text differs");
+            tell_wrong("threads", "a text differs, or something is not freed");
     }
     for (size_t at = 0; at < CALL_COUNT; at++)
         guarded_free(first.due[at]);
@@ -315,5 +316,7 @@ int main(int argc, char *argv[])
     else
         return 2;
     subject_free(&subject);
+    if (held != 0)
+        tell_wrong(argv[1], "something of the fleet is not freed");
     return wrong;
 }
