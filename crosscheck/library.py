@@ -36,7 +36,10 @@ SECONDS = 600
 TRIED_EACH = 10
 DONE, REFUSED, NO_PRINTER, NOT_ALLOWED, NO_FIELD, NO_PAGE, UNKNOWN = 0, 6, 4, 7, 8, 9, 10
 CAUSES = ("", "Version", "Unknown", "Repeated", "Range", "Missing", "NoGeometry")
-VALGRIND = ("valgrind", "-q", "--error-exitcode=9", "--leak-check=full")
+# The sanitizers see the callers alone, and what the library asks C for; valgrind sees all.
+VALGRIND = ("valgrind", "-q", "--error-exitcode=9")
+UNDER_VALGRIND = {"rooms": ("--leak-check=full",), "memory": ("--leak-check=full",),
+                  "threads": ("--tool=helgrind",)}
 # How callers are built, with the modes in which each is run, and what it is run by.
 BUILDS: Dict[str, Tuple[Tuple[str, ...], Tuple[str, ...]]] = {
     "plain": ((), ("rooms", "memory", "threads")),
@@ -236,7 +239,8 @@ class Comparison:
         wrong = []
         runs = [(name, mode, ()) for name in self.callers.built for mode in BUILDS[name][1]]
         if shutil.which(VALGRIND[0]):
-            runs += [("plain", mode, VALGRIND) for mode in ("rooms", "memory")]
+            runs += [("plain", mode, (*VALGRIND, *words))
+                     for mode, words in UNDER_VALGRIND.items()]
         for name, mode, by in runs:
             try:
                 self.callers.run(name, mode, files, by)
