@@ -109,9 +109,9 @@ $(BUILT)/libpclcheck.so: $(PROVED) $(MEMORY) include/pclcheck.map
 		-Wl,--whole-archive $(PROVED) $(MEMORY) -Wl,--no-whole-archive
 	ln -sf libpclcheck.so.0 $@
 
-# It says where the library is installed.
+# It says where the library is installed; without a PREFIX, from where itself lies.
 pc: program
-	@printf '%s\n' 'prefix=$(PREFIX)' 'Name: pclcheck' \
+	@printf '%s\n' 'prefix=$(or $(PREFIX),$${pcfiledir}/../..)' 'Name: pclcheck' \
 		'Description: preflight checker for PCL 5 print jobs' 'Version: $(VERSION)' \
 		'Cflags: -I$${prefix}/include' 'Libs: -L$(LIBRARIES:$(PREFIX)%=$${prefix}%) -lpclcheck' \
 		> $(BUILT)/pclcheck.pc
