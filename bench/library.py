@@ -1,13 +1,13 @@
 """What a check by the library takes, beside a process for each job: a part of run.py."""
 
+import os
 import subprocess
-import time
 from pathlib import Path
 from typing import List
 
 ROOT = Path(__file__).resolve().parent.parent
 BUILT = ROOT / "crates" / "pclcheck_c" / "out" / "built"
-STARTS = 50
+STARTS = 200
 
 
 def built_caller(folder: Path) -> Path:
@@ -20,17 +20,17 @@ def built_caller(folder: Path) -> Path:
 
 
 def by_library(caller: Path, job: Path, profiles: List[Path]) -> float:
-    """How many milliseconds a check takes, where the fleet is read once."""
+    """How many milliseconds of processor time a check takes, where the fleet is read once."""
     run = subprocess.run([caller, job, *profiles], check=True, capture_output=True, text=True)
     return int(run.stdout) / 1e6
 
 
 def by_process(program: Path, job: Path, profiles: List[Path]) -> float:
-    """How many milliseconds the fastest of some processes takes for one check."""
-    times = []
+    """How many milliseconds of processor time one of some processes takes for a check."""
+    before = os.times()
     for _ in range(STARTS):
-        began = time.perf_counter()
         subprocess.run([program, "check", job, *profiles], check=True,
                        stdout=subprocess.DEVNULL)
-        times.append(time.perf_counter() - began)
-    return min(times) * 1e3
+    after = os.times()
+    took = sum(after[2:4]) - sum(before[2:4])
+    return took * 1e3 / STARTS

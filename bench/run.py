@@ -41,7 +41,7 @@ depth and macro memory. The script stops where one does not.
   each with the picture of its first page, or of the one on which it fails. All is given a job, and
   the document is thrown away.
 - The library: a job of whole pages and at least 4,096 bytes is checked over and over by a caller in
-  C, which reads the fleet once, and by a process each time.
+  C, which reads the fleet once, and by a process each time; in processor time.
 """
 
 import argparse

@@ -6,9 +6,9 @@
 The header has to be C and C++, and the shared library to have the names of its calls alone. COUNT
 random jobs and their fleets, and each example, go through each call: the numbers and the bytes of
 each text have to be those of the program's commands, and a room has to be as long as the call said.
-Of every tenth job (and of each example) rooms are tried that are too short or too long, each
-request for memory is refused in turn, and eight threads make the calls side by side: as it is, and
-with the sanitizers of the compiler and valgrind, where there are some.
+Of every tenth job and of the examples, where they are small, rooms are tried that are too short or
+too long, each request for memory is refused in turn, and eight threads make the calls side by side:
+as it is, and with the sanitizers of the compiler and valgrind, where there are some.
 What the program says of itself is trusted here; `run.py` compares that. Needs `cc`, make, binutils
 and what `make build` built, and without cc compares nothing. Prints each difference and at last
 `N compared, M differ`, where N counts jobs. The exit status is 0 where M is 0, else 1.
@@ -34,6 +34,8 @@ SOURCES = [str(ROOT / "crosscheck" / name) for name in ("library.c", "library_ca
 WRAPPED = "-Wl,--wrap=malloc,--wrap=realloc,--wrap=free"
 SECONDS = 600
 TRIED_EACH = 10
+# What is tried takes a run for each request for memory, so jobs of more bytes are not.
+MOST_TRIED = 800
 DONE, REFUSED, NO_PRINTER, NOT_ALLOWED, NO_FIELD, NO_PAGE, UNKNOWN = 0, 6, 4, 7, 8, 9, 10
 CAUSES = ("", "Version", "Unknown", "Repeated", "Range", "Missing", "NoGeometry")
 # The sanitizers see the callers alone, and what the library asks C for; valgrind sees all.
@@ -255,7 +257,7 @@ class Comparison:
             wrong = differences(found, Program(self.program, self.folder, len(texts)))
         except ValueError as fault:
             wrong = [str(fault)]
-        if is_tried:
+        if is_tried and len(job) <= MOST_TRIED:
             wrong += self.tried(files)
         self.done += 1
         self.differ += bool(wrong)
