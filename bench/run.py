@@ -6,6 +6,7 @@
     python3 bench/run.py --many              many jobs in one run alone
     python3 bench/run.py --pictures          pictures of pages of many marks alone
     python3 bench/run.py --reports           reports of many jobs alone
+    python3 bench/run.py --library           checks by the library alone; they need cc
     python3 bench/run.py --only lines        one kind; the option may come often
     python3 bench/run.py --size 32           jobs of 32 MiB
     python3 bench/run.py --program PATH      another build of the program
@@ -39,6 +40,8 @@ depth and macro memory. The script stops where one does not.
 - Reports: 200 jobs, each of whole pages and at least 4,096 bytes, are told in a document of HTML,
   each with the picture of its first page, or of the one on which it fails. All is given a job, and
   the document is thrown away.
+- The library: a job of whole pages and at least 4,096 bytes is checked over and over by a caller in
+  C, which reads the fleet once, and by a process each time; in processor time.
 """
 
 import argparse
@@ -55,6 +58,7 @@ from pathlib import Path
 
 sys.dont_write_bytecode = True
 
+import library                                                     # noqa: E402
 from made_jobs import KINDS, RESET, characters_of_page, dense, rows_of_page   # noqa: E402
 
 ROOT = Path(__file__).resolve().parent.parent
@@ -109,6 +113,9 @@ KIND_OF_COMMANDS = "mix"
 MANY_JOBS = 2000
 SIZE_OF_MANY = 4096
 PRINTERS_OF_MANY = 2
+
+# The kinds of jobs that are checked by the library.
+KINDS_OF_LIBRARY = ("rectangles", "words", "mix", "report")
 
 # How many jobs a report has. The jobs by what they are made of, how they end, and the status.
 JOBS_OF_REPORT = 200
@@ -426,6 +433,14 @@ COLUMNS_OF_MANY = {
     "Peak memory": ">11",
 }
 
+COLUMNS_OF_LIBRARY = {
+    "Job": "<11",
+    "Bytes": ">5",
+    "Printers": ">8",
+    "By the library": ">14",
+    "By a process": ">12",
+}
+
 COLUMNS_OF_REPORTS = {
     "Jobs": "<13",
     "Bytes": ">5",
@@ -543,6 +558,21 @@ def print_pictures(program, folder):
             print_row(COLUMNS_OF_PICTURES, [kind, *numbers])
 
 
+def print_library(program, folder):
+    """Prints what a check of a small job takes by the library, and by a process."""
+    caller = library.built_caller(Path(folder))
+    print_head(COLUMNS_OF_LIBRARY)
+    write_fleet(folder)
+    for name in KINDS_OF_LIBRARY:
+        job = Path(folder) / f"library_{name}.pcl"
+        job.write_bytes(small_jobs(KINDS[name], 1)[0])
+        for count in FLEETS:
+            fleet = profiles_in(folder)[:count]
+            took = f"{library.by_library(caller, job, fleet):.3f} ms"
+            process = f"{library.by_process(program.path, job, fleet):.2f} ms"
+            print_row(COLUMNS_OF_LIBRARY, [name, job.stat().st_size, count, took, process])
+
+
 def tenths(number):
     """A number with one decimal; a dash where there is none."""
     return "-" if number is None else f"{number:.1f}"
@@ -596,6 +626,7 @@ def arguments():
     parser.add_argument("--many", action="store_true", help="many jobs in one run alone")
     parser.add_argument("--pictures", action="store_true", help="pictures of full pages alone")
     parser.add_argument("--reports", action="store_true", help="reports of many jobs alone")
+    parser.add_argument("--library", action="store_true", help="checks by the library alone")
     parser.add_argument("--profile", action="store_true", help="the functions that cost most")
     return parser.parse_args()
 
@@ -609,7 +640,7 @@ def print_all(program, folder, words):
             print_profile(program, folder, kind)
         return
     print(f"Processor: {processor()}\n")
-    parts = (words.commands, words.many, words.pictures, words.reports, words.only)
+    parts = (words.commands, words.many, words.pictures, words.reports, words.library, words.only)
     is_whole = not any(parts)
     tables = []
     if words.only or is_whole:
@@ -623,6 +654,8 @@ def print_all(program, folder, words):
         tables.append(lambda: print_pictures(program, folder))
     if words.reports or is_whole:
         tables.append(lambda: print_reports(program, folder))
+    if words.library or (is_whole and shutil.which("cc")):
+        tables.append(lambda: print_library(program, folder))
     for number, table in enumerate(tables):
         if number:
             print()

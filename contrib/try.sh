@@ -1,12 +1,15 @@
 #!/bin/sh
-# Tries what is in this folder for real: a private cupsd, a hot folder and two sshd, on loopback.
+# Tries what is in this folder for real: a private cupsd, a printer application, a hot folder and two
+# sshd, on loopback, and the module for Python.
 #
-#   contrib/try.sh [cups] [hotfolder] [parallel]        without a word: all three
+#   contrib/try.sh [hotfolder] [parallel] [cups] [pappl] [python]        without a word: all
 #
 # Run it as root (only so does cupsd give its backends to another user). Needs the built program,
-# crates/pclcheck/out/pclcheck or PCLCHECK, and of Debian 12 the packages
+# crates/pclcheck/out/pclcheck or PCLCHECK, the library that `make lib` made, and of Debian 12 the
+# packages
 #
-#   cups cups-client openssh-server openssh-client parallel python3 procps
+#   cups cups-client cups-ipp-utils libpappl-dev pkg-config gcc openssh-server openssh-client
+#   parallel python3 procps
 #
 # It takes about a minute. Everything is kept in a folder that is removed at the end, and each
 # process that was started is ended; the cupsd and the sshd of the system are not touched. The last
@@ -16,6 +19,7 @@ set -eu
 here=$(cd "$(dirname "$0")" && pwd)
 examples=$here/../examples
 program=${PCLCHECK:-$here/../crates/pclcheck/out/pclcheck}
+built=$here/../crates/pclcheck_c/out/built
 unset PCLCHECK
 
 need() {
@@ -24,15 +28,28 @@ need() {
         exit 2
     fi
 }
-need "$program" 'build it, or name it by PCLCHECK'
-need /usr/sbin/cupsd "Debian's package cups"
-need /usr/bin/lp "Debian's package cups-client"
-need /usr/lib/cups/backend/socket "Debian's package cups"
-need /usr/sbin/sshd "Debian's package openssh-server"
-need /usr/bin/ssh "Debian's package openssh-client"
-need /usr/bin/parallel "Debian's package parallel"
-need /usr/bin/python3 "Debian's package python3"
-need /usr/bin/pgrep "Debian's package procps"
+needs() {                       # needs PART: what it is tried with
+    need "$program" 'build it, or name it by PCLCHECK'
+    need /usr/bin/python3 "Debian's package python3"
+    need /usr/bin/pgrep "Debian's package procps"
+    case $1 in
+    cups | pappl)
+        need /usr/bin/cc "Debian's package gcc"
+        need /usr/sbin/cupsd "Debian's package cups"
+        need /usr/bin/lp "Debian's package cups-client"
+        need /usr/bin/ipptool "Debian's package cups-ipp-utils"
+        need /usr/lib/cups/backend/socket "Debian's package cups"
+        ;;
+    parallel)
+        need /usr/sbin/sshd "Debian's package openssh-server"
+        need /usr/bin/ssh "Debian's package openssh-client"
+        need /usr/bin/parallel "Debian's package parallel"
+        ;;
+    esac
+    case $1 in
+    cups | pappl | python) need "$built/libpclcheck.so.0" 'make build, and then make lib' ;;
+    esac
+}
 if [ "$(id -u)" != 0 ]; then
     echo 'try.sh: run it as root' >&2
     exit 2
@@ -108,6 +125,13 @@ has() {                         # has TEXT FILE: the file has the text
 is_equal() {                    # is_equal A B: two words
     [ "$1" = "$2" ] || { echo "$1, due $2"; return 1; }
 }
+build_caller() {                # build_caller NAME SOURCE [WORDS..]: a caller of the library, in C
+    caller=$work/bin/$1
+    source=$2
+    shift 2
+    cc -std=c11 -Wall -Wextra -Werror -O2 -I "$here/../include" -I "$here/c" "$source" \
+        "$here/c/gate.c" "$built/libpclcheck.a" "$@" -o "$caller"
+}
 is_gone() { [ ! -e "/proc/$1" ]; }
 free_port() {
     python3 -c 'if True:
@@ -120,15 +144,18 @@ is_open() {                     # is_open PORT: something listens there
         socket.create_connection(("127.0.0.1", int(sys.argv[1])))' "$1"
 }
 
-[ $# -gt 0 ] || set -- hotfolder parallel cups
+# shellcheck source=/dev/null
+. "$here/private_cups.sh"
+[ $# -gt 0 ] || set -- hotfolder parallel cups pappl python
 for part; do
     case $part in
-    cups | hotfolder | parallel) ;;
+    cups | hotfolder | parallel | pappl | python) ;;
     *)
         echo "try.sh: there is no part $part" >&2
         exit 2
         ;;
     esac
+    needs "$part"
     echo "-- $part"
     # shellcheck source=/dev/null
     . "$here/$part/try.sh"

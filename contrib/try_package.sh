@@ -1,14 +1,15 @@
 #!/bin/sh
-# Tries Debian's package of pclcheck in a clean Debian 12.
+# Tries Debian's packages of pclcheck in a clean Debian 12.
 #
 #     contrib/try_package.sh [SYSTEM]
 #
-# Makes the package, lets lintian judge it, and then installs, uses and removes it in a system of
-# its own: in one that debootstrap makes (some minutes, 230 MB), or in a copy of the folder SYSTEM,
-# which `debootstrap --variant=minbase --include=man-db bookworm SYSTEM` made. Needs root, a tree
-# that is a commit, the built program, and from Debian make, git, dpkg-dev, binutils, lintian and
-# debootstrap. Prints what is tried, and at last 'N passed, M failed'. The exit status is 0 where M
-# is 0, else 1, and 2 where something is missing. All is done in a temporary folder, which goes.
+# Makes the packages, lets lintian judge them, and then installs, uses and removes them in a system
+# of their own: in one that debootstrap makes (some minutes, 500 MB), or in a copy of the folder
+# SYSTEM, which `debootstrap --variant=minbase --include=man-db,gcc,libc6-dev,pkg-config bookworm
+# SYSTEM` made. Needs root, a tree that is a commit, the built program and library, and from Debian
+# make, git, gcc, dpkg-dev, binutils, lintian and debootstrap. Prints what is tried, and at last
+# 'N passed, M failed'. The exit status is 0 where M is 0, else 1, and 2 where something is missing.
+# All is done in a temporary folder, which goes.
 set -eu
 export LC_ALL=C
 
@@ -19,7 +20,7 @@ missing()
 }
 
 [ "$(id -u)" -eq 0 ] || missing 'has to be run by root, who may chroot'
-for tool in make git dpkg-shlibdeps strip lintian debootstrap; do
+for tool in make git cc dpkg-shlibdeps strip lintian debootstrap; do
     command -v "$tool" > /dev/null || missing "there is no $tool; its head names packages"
 done
 cd "$(dirname "$0")/.."
@@ -66,7 +67,8 @@ shows()
 {
     page=$1
     shift
-    inside man --warnings "$page" > "$folder/page" 2> "$folder/complaints"
+    # shellcheck disable=SC2086  # a section and a name are words
+    inside man --warnings $page > "$folder/page" 2> "$folder/complaints"
     cat "$folder/complaints"
     [ ! -s "$folder/complaints" ] || return 1
     for heading in "$@"; do
@@ -84,7 +86,8 @@ files()
 # dpkg tells of files that are changed or gone, and its status is 0 all the same.
 is_whole()
 {
-    inside dpkg --verify pclcheck > "$folder/came"
+    # shellcheck disable=SC2086  # the packages are words
+    inside dpkg --verify $packages > "$folder/came"
     cat "$folder/came"
     [ ! -s "$folder/came" ]
 }
@@ -104,22 +107,26 @@ nothing_is_left()
 }
 
 make -s deb > "$folder/told" 2>&1 || missing "make deb: $(head -n 1 "$folder/told")"
-package=dist/pclcheck_$(dpkg-parsechangelog -S Version)_$(dpkg --print-architecture).deb
-echo "package: $package"
+packages='pclcheck libpclcheck0 libpclcheck-dev'
+made_as=$(dpkg-parsechangelog -S Version)_$(dpkg --print-architecture).deb
 if [ -n "$made" ]; then
     cp -a "$made" "$system"
 else
-    debootstrap --variant=minbase --include=man-db bookworm "$system" > "$folder/told" 2>&1 ||
-        missing "debootstrap: $(tail -n 1 "$folder/told")"
+    debootstrap --variant=minbase --include=man-db,gcc,libc6-dev,pkg-config bookworm "$system" \
+        > "$folder/told" 2>&1 || missing "debootstrap: $(tail -n 1 "$folder/told")"
 fi
-cp "$package" "$system/root/pclcheck.deb"
+for package in $packages; do cp "dist/${package}_$made_as" "$system/root/$package.deb"; done
 examples=/usr/share/doc/pclcheck/examples
+build='cc -Wall -Werror /usr/share/doc/libpclcheck-dev/examples/check.c -o /root/check'
 files "$folder/before"
 
-try 'lintian finds no error' lintian --allow-root --fail-on error "$package"
-sed -n 's/^W/    W/p' "$folder/told"
-try 'the package installs' inside dpkg --install /root/pclcheck.deb
-try 'its files are as they were packed' is_whole
+for package in $packages; do
+    try "lintian finds no error in $package" \
+        lintian --allow-root --fail-on error "dist/${package}_$made_as"
+    sed -n 's/^W/    W/p' "$folder/told"
+done
+try 'the packages install' inside sh -c 'dpkg --install /root/*.deb'
+try 'their files are as they were packed' is_whole
 try 'the program tells its version' inside pclcheck --version
 try 'man pclcheck shows' shows pclcheck NAME SYNOPSIS VERDICTS FINDINGS 'EXIT STATUS' EXAMPLES
 try 'man pclcheck-profile shows' shows pclcheck-profile NAME KEYS FAULTS EXAMPLES
@@ -130,7 +137,17 @@ try 'the fleet of the examples is read' writes "PASS pages=1 marks=268 $examples
 try 'profiles are those of the program' profiles_are_those_of_the_program
 try 'the completion for bash loads' writes 'complete -F _pclcheck pclcheck' \
     bash -c '. /usr/share/bash-completion/completions/pclcheck && complete -p pclcheck'
-try 'the package is removed' inside dpkg --purge pclcheck
-try 'nothing of it is left' nothing_is_left
+try 'man 3 pclcheck shows' shows '3 pclcheck' NAME SYNOPSIS 'RETURN VALUE' ATTRIBUTES
+try 'a program is built against the library' inside sh -c "$build \$(pkg-config --libs pclcheck)"
+try 'it needs libpclcheck.so.0' inside sh -c 'ldd /root/check | grep "libpclcheck.so.0 => /"'
+try 'it runs' writes "$examples/letter.pcl: hp-laserjet-4250 prints this job (pages=2 marks=414)" \
+    /root/check "$examples/letter.pcl" /usr/share/pclcheck/profiles/hp-laserjet-4250.profile
+try 'a program is built with the library in it' inside sh -c "$build -l:libpclcheck.a"
+try 'it runs' writes "$examples/letter.pcl: hp-laserjet-4250 prints this job (pages=2 marks=414)" \
+    /root/check "$examples/letter.pcl" /usr/share/pclcheck/profiles/hp-laserjet-4250.profile
+rm -f "$system/root/check"
+# shellcheck disable=SC2086  # the packages are words
+try 'the packages are removed' inside dpkg --purge $packages
+try 'nothing of them is left' nothing_is_left
 echo "$passed passed, $failed failed"
 [ "$failed" -eq 0 ]

@@ -1,5 +1,6 @@
 # shellcheck shell=sh disable=SC2154,SC2034
-# Part of contrib/try.sh: the backend alone, with its own troubles, and then behind a private cupsd.
+# Part of contrib/try.sh: the backend alone, with its own troubles, and then behind a private cupsd;
+# and there the filter.
 
 gate=$work/bin/pclgate
 install -m 755 "$here/cups/pclgate" "$gate"
@@ -18,3 +19,6 @@ printf '\033*p+1500Y\033*c300a1500b0P' >"$cups/once.pcl"
 . "$here/cups/try_alone.sh"
 # shellcheck source=/dev/null
 . "$here/cups/try_queue.sh"
+# shellcheck source=/dev/null
+. "$here/cups/try_filter.sh"
+unset CUPS_SERVER

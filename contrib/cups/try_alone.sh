@@ -134,7 +134,7 @@ say 'backend: which is told' tells \
 say 'backend: a job that is wrong is held then, too' gate 3 /front/stand-in:x 1 "$alone/wrong.pcl"
 say 'backend: and one that a printer refuses' gate 3 /all/stand-in:x 1 "$job"
 say 'backend: logged: it is printed' gate 0 /front/log/stand-in:x 1 "$alone/spaced.pcl"
-say 'backend: logged: has its line' is_logged front '"at":0,.*"kind":"unchecked",.*"FAIL"'
+say 'backend: logged: has its line' is_logged front '"at":0,.*"kind":"unchecked",.*"FAIL".*'
 say 'backend: logged: is not copied' no_copy front
 unset PCLCHECK_UNCHECKED
 

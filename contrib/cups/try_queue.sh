@@ -1,14 +1,6 @@
 # shellcheck shell=sh disable=SC2154,SC2034
 # Part of contrib/cups/try.sh: the backend behind a private cupsd, before a stand-in for a printer.
 
-mkdir "$cups/etc" "$cups/bin" "$cups/bin/backend" "$cups/spool" "$cups/cache" "$cups/run" \
-    "$cups/log" "$cups/tmp" "$cups/printer"
-chgrp lp "$cups/tmp"
-chmod 1770 "$cups/tmp"
-mkdir -m 777 "$cups/seen"
-for folder in daemon filter; do ln -s "/usr/lib/cups/$folder" "$cups/bin/$folder"; done
-cp /usr/lib/cups/backend/socket "$cups/bin/backend"
-install -m 755 "$gate" "$cups/bin/backend/pclgate"
 # Slow while there is a file that says so.
 cat >"$work/bin/at_times_slow" <<END
 #!/bin/sh
@@ -19,62 +11,11 @@ fi
 exec "$work/bin/pclcheck" "\$@"
 END
 chmod 755 "$work/bin/at_times_slow"
-cat >"$cups/etc/cups-files.conf" <<END
-User lp
-Group lp
-SystemGroup root
-ServerRoot $cups/etc
-ServerBin $cups/bin
-DataDir /usr/share/cups
-CacheDir $cups/cache
-StateDir $cups/run
-RequestRoot $cups/spool
-TempDir $cups/tmp
-AccessLog $cups/log/access
-ErrorLog $cups/log/error
-PageLog $cups/log/page
-Printcap
-SetEnv PCLCHECK $work/bin/at_times_slow
-SetEnv PCLCHECK_FLEETS $cups/fleets
-END
-port=$(free_port)
-cat >"$cups/etc/cupsd.conf" <<END
-Listen 127.0.0.1:$port
-LogLevel info
-MaxLogSize 0
-Browsing No
-WebInterface No
-DefaultAuthType None
-ErrorPolicy abort-job
-<Location />
-  Order allow,deny
-  Allow localhost
-</Location>
-<Policy default>
-  JobPrivateAccess all
-  JobPrivateValues none
-  SubscriptionPrivateAccess all
-  SubscriptionPrivateValues none
-  <Limit All>
-    Order allow,deny
-    Allow localhost
-  </Limit>
-</Policy>
-END
-start_cups() {
-    /usr/sbin/cupsd -f -c "$cups/etc/cupsd.conf" -s "$cups/etc/cups-files.conf" 2>"$cups/log/err" &
-    cupsd=$!
-    started="$started $cupsd"
-    soon is_open "$port"
-}
-CUPS_SERVER=127.0.0.1:$port
-export CUPS_SERVER
-log=$cups/log/error
+make_cups "$cups" "SetEnv PCLCHECK $work/bin/at_times_slow" "SetEnv PCLCHECK_FLEETS $cups/fleets"
+mkdir -m 777 "$cups/seen"
+install -m 755 "$gate" "$cups/bin/backend/pclgate"
 
-python3 "$here/try_printer.py" "$cups/printer" &
-started="$started $!"
-say 'queue: a printer listens' soon [ -f "$cups/printer/port" ]
-printer=socket://127.0.0.1:$(cat "$cups/printer/port")
+say 'queue: a printer listens' start_printer "$cups/printer"
 say 'queue: a private cupsd listens' start_cups
 for queue in front shop all broken; do
     lpadmin -p "$queue" -E -m raw -v "pclgate:/$queue/$printer" 2>"$work/lpadmin"
@@ -83,16 +24,8 @@ lpadmin -p unchecked -E -m raw -v "pclgate:/broken/print/$printer" 2>"$work/lpad
 devices() { lpinfo -v | grep '^direct pclgate'; }
 say 'queue: CUPS lists the backend' devices
 
-print_job() {                   # print_job WORDS..: lp; the job is then in $name, as front-1
-    name=$(lp "$@") || name='request id is none-0 '
-    name=${name#request id is }
-    name=${name%% *}
-    number=${name##*-}
-}
 resume() { lp -i "$name" -H resume || :; }
-is_done() { lpstat -W completed -o | grep -q "^$name "; }
 is_held() { lpstat -l -o | grep -A 9 "^$name " | grep -q 'job-hold-until-specified'; }
-state() { lpstat -l -W "${1:-not-completed}" -o | grep -A 3 "^$name "; }
 holds() {                       # holds SENTENCE: the job is held, and why is shown and logged
     soon is_held || { state; return 1; }
     state >"$cups/state"
@@ -185,4 +118,3 @@ rm "$cups/slow"
 say 'queue: cupsd starts again' start_cups
 say 'queue: the job is checked and printed' prints "$job"
 say 'queue: no file of the backend is left' [ -z "$(find "$cups/tmp" -name 'pclgate.*')" ]
-unset CUPS_SERVER

@@ -1,0 +1,88 @@
+/* A filter of CUPS: hands on a job of PCL 5 that each printer of the queue's fleet prints, and
+   stops any other with the sentence that says why.
+
+   CUPS calls it with JOB USER TITLE COPIES OPTIONS [FILE], and the queue in PRINTER. Its exit
+   status is 1 where the job is stopped. */
+#define _DEFAULT_SOURCE
+#include "gate.h"
+
+#include <fcntl.h>
+#include <stdio.h>
+#include <stdlib.h>
+#include <signal.h>
+#include <string.h>
+#include <unistd.h>
+
+enum { MOST_COPIES = 9999 };
+
+/* CUPS shows words of its own where it sees the end of the filter before it reads why. */
+static int stop(const char *sentence)
+{
+    fprintf(stderr, "ERROR: preflight: %s\n", sentence);
+    sleep(1);
+    return EXIT_FAILURE;
+}
+
+/* How often the job is printed; 0 where CUPS says nonsense. On standard input it has its copies. */
+static unsigned copies_of(int argc, char *argv[])
+{
+    char *end;
+    unsigned long copies = strtoul(argv[4], &end, 10);
+
+    if (argc == 6)
+        return 1;
+    return *end == '\0' && copies >= 1 && copies <= MOST_COPIES ? (unsigned)copies : 0;
+}
+
+static bool write_all(const struct gate_bytes *job)
+{
+    return fwrite(job->bytes, 1, job->length, stdout) == job->length && fflush(stdout) == 0;
+}
+
+/* Checks what the printer gets, all copies as one stream, and hands it on where it passes. */
+static int pass_on(struct pclcheck_fleet *fleet, const struct gate_bytes *job)
+{
+    char sentence[2048];
+
+    if (gate_check(fleet, job, sentence, sizeof sentence) != GATE_PASSES)
+        return stop(sentence);
+    fprintf(stderr, "NOTICE: preflight: %s\n", sentence);
+    return write_all(job) ? EXIT_SUCCESS : stop("the job could not be handed on");
+}
+
+static int run(int file, const char *queue, unsigned copies)
+{
+    struct gate_bytes job;
+    struct pclcheck_fleet fleet;
+    char cause[1024];
+    int status;
+
+    if (!gate_open(queue, &fleet, cause, sizeof cause))
+        return stop(cause);
+    if (!gate_read(file, &job, cause, sizeof cause)) {
+        pclcheck_fleet_free(&fleet);
+        return stop(cause);
+    }
+    status = gate_repeat(&job, copies) ? pass_on(&fleet, &job) : stop("memory ran out");
+    free(job.bytes);
+    pclcheck_fleet_free(&fleet);
+    return status;
+}
+
+int main(int argc, char *argv[])
+{
+    const char *queue = getenv("PRINTER");
+    unsigned copies;
+    int file;
+
+    signal(SIGPIPE, SIG_IGN);
+    if (queue == NULL || argc < 6 || argc > 7)
+        return stop("CUPS calls this filter, with a job and the queue in PRINTER");
+    copies = copies_of(argc, argv);
+    if (copies == 0)
+        return stop("CUPS gave a bad number of copies");
+    file = argc == 7 ? open(argv[6], O_RDONLY) : STDIN_FILENO;
+    if (file < 0)
+        return stop("the job could not be read");
+    return run(file, queue, copies);
+}
