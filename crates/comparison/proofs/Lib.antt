@@ -7,5 +7,4 @@ pub mod Running
 pub mod Sameness
 pub mod SoFar
 pub mod Steps
-pub mod TextBytes
 pub mod SameLines

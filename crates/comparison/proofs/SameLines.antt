@@ -6,6 +6,7 @@ use Rattle.pcl_items.specs.declared.item.Mode.TheVariants.{Pcl}
 use Rattle.pcl_items.specs.Items.{Placed, at}
 use Rattle.pcl_items.specs.Lines.{line_item, line_items}
 use Rattle.pcl_items.specs.Modes.{follows}
+use Rattle.pcl_lexer.specs.Lexing.Contexts.{pending}
 use Rattle.pcl_lexer.specs.Lexing.Passing.{ReadsLines, ahead_of}
 use Rattle.pcl_lexer.specs.Lexing.State.{LexerState}
 use Rattle.pcl_lexer.specs.Modes.{mode_of}
@@ -26,7 +27,7 @@ use Rattle.page_machine.specs.Machine.{item_of}
 use Rattle.page_machine.specs.MachineState.{MachineState}
 use Rattle.page_machine.specs.Run.{peaks_of}
 use Rattle.page_machine.specs.TextLines.{IsMeasuredAt, PrintsLines, glyph_events, machine_behind}
-use Rattle.comparison.proofs.TextBytes.{line_mode, lines_follow, lines_less, shape_count, shapes_of}
+use Rattle.preflight.proofs.TextInStep.{line_mode, lines_follow, shape_count, shapes_of}
 use Rattle.sinks.specs.Counts.{capped, counted, counts_after}
 use Rattle.streams.specs.Source.{SourceState}
 use Rattle.comparison.specs.declared.difference.Difference.{Difference}
@@ -41,6 +42,14 @@ use Rattle.comparison.proofs.Carried.{item_carried}
 use Rattle.comparison.proofs.Running.{stands_open, under_way}
 use Rattle.comparison.proofs.SoFar.{level_came, spot_behind-append}
 use Rattle.comparison.proofs.Steps.{behind_more}
+
+-- ---- what is left to be read
+
+-- bytes of it leave less
+pub lines_less : (codes : List ℕ) (old new : LexerState) → ReadsLines old codes new → 1 ≤ length codes →
+    left new.context new.rest < left old.context old.rest
+lines_less codes old new passes some =
+    omega (arith, passes.total, passes.place, ap pending passes.begins_in_pcl, ap pending passes.ends_in_pcl)
 
 -- ---- items that were carried out, wherever they were read
 
