@@ -4,9 +4,9 @@
 
 A session is a line that begins with `$ ` and the lines behind it, up to an empty line or the next
 one: what is then written on standard output and standard error. Those of a document run in one copy
-of the examples. A stored run also tells the exit
-status and keeps the two streams apart. Prints a line for each that differs, and at last
-`N run, M differ`. The exit status is 0 where M is 0, else 1.
+of the examples. A stored run also tells the exit status and keeps the two streams apart. Prints a
+line for each that differs, and at last `N run, M differ`. The exit status is 0 where M is 0, else
+1.
 """
 
 import re
