@@ -121,4 +121,4 @@ pub told_all : (golden : Golden) (fleet : List Printer) (names : List (List ℕ)
     IsFalse old.out.failed → LeavesPairs golden fleet names start (map names_of (drop i pairs)) ending status old old
 told_all golden fleet names start pairs i ending status old over ends working =
     subst (λ (rest : List JobPair). LeavesPairs golden fleet names start (map names_of rest) ending status old old)
-    (sym (drop_all pairs i over)) (ends, working, refl)
+    (sym (drop_all i pairs over)) (ends, working, refl)

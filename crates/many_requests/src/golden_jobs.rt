@@ -78,7 +78,10 @@ fn last_part(path: &str) -> &str
 }
 
 /// The names of both jobs of each.
-fn pairs_of<'g>(alloc: Global, golden: &'g [GoldenJob<'g>]) -> Result<Vec<JobPair<'g>>, AllocError>
+fn pairs_of<'g, 'n>(
+    alloc: Global,
+    golden: &'g [GoldenJob<'n>],
+) -> Result<Vec<JobPair<'g>>, AllocError>
     ensures { IfOk result (λ pairs. map names_of pairs.items ≡ map golden_names golden.now) }
 {
     let mut pairs = Vec::new(alloc);
@@ -88,7 +91,7 @@ fn pairs_of<'g>(alloc: Global, golden: &'g [GoldenJob<'g>]) -> Result<Vec<JobPai
     Ok(pairs)
 }
 
-fn pair_of<'g>(job: &'g GoldenJob<'g>) -> JobPair<'g>
+fn pair_of<'g, 'n>(job: &'g GoldenJob<'n>) -> JobPair<'g>
     ensures { names_of result ≡ golden_names job.now }
 {
     JobPair {

@@ -9,8 +9,7 @@ draw_on_printers-requires g c =
       (refl, tt),
       (
         c.requires.out,
-        c.requires.stdout,
-        subst (λ stderr. IsFalse (g.E.Outlet.state stderr).failed) (sym c.in-Ok.ensures.quiet) c.requires.stderr,
+        (c.requires.stdout, subst (λ stderr. IsFalse (g.E.Outlet.state stderr).failed) (sym c.in-Ok.ensures.quiet) c.requires.stderr),
       ),
     )
 

@@ -6,8 +6,8 @@ use Rattle.compare_command.specs.Compare.{AreCompared, asked_for}
 use Rattle.compare_command.specs.Drawing.{DrawsFound}
 use Rattle.compare_command.proofs.drawing.draw_on_printers.Goals as goal
 
-pub tell_stop-requires-clause-error : goal.tell_stop-requires-clause-error
-tell_stop-requires-clause-error g c = c.in-Err.ensures.stopped
+pub tell_stop-status-requires-clause-error : goal.tell_stop-status-requires-clause-error
+tell_stop-status-requires-clause-error g c = c.in-Err.ensures.stopped
 
 pub returns-in-Ok : goal.returns-in-Ok
 returns-in-Ok g c =

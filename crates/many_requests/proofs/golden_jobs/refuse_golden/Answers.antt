@@ -1,8 +1,12 @@
-use Rattle.std.proofs.Common.{List, inr, map, subst, sym, ℕ}
+use Rattle.std.proofs.Common.{List, inl, inr, map, subst, sym, ◌∙◌, ℕ}
 use Rattle.std.specs.Prelude.{Contains}
 use Rattle.std.proofs.lemmas.Simd.{map-map}
 use Rattle.compare_command.specs.Golden.{names_of}
 use Rattle.many_requests.proofs.golden_jobs.refuse_golden.Goals as goal
+
+pub returns-then-names_input-clause-refused : goal.returns-then-names_input-clause-refused
+returns-then-names_input-clause-refused g c =
+    inl (sym c.names_input.ensures ∙ c.if-names_input.true, c.refuse_words.ensures.status, c.refuse_words.ensures.text)
 
 pub returns-in-Some-clause-refused : goal.returns-in-Some-clause-refused
 returns-in-Some-clause-refused g c =
