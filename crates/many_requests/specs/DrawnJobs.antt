@@ -1,5 +1,5 @@
 -- What a comparison of two jobs leaves that is made on files, with a picture of what differs.
-use Rattle.std.specs.Prelude.{◌≡◌, ◌⊎◌, ℕ, Bool, List, [], ◌∷◌, ◌++◌, map, IsFalse, IsTrue, true}
+use Rattle.std.specs.Prelude.{◌≡◌, ◌⊎◌, ℕ, Bool, List, [], ◌∷◌, ◌++◌, map, IsFalse, IsTrue, false, true}
 use Rattle.requests.specs.declared.status.Input.{Input}
 use Rattle.requests.specs.declared.status.Status.{Status}
 use Rattle.requests.specs.declared.status.Status.TheVariants.{Overwrites, Stopped}
