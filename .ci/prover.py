@@ -83,6 +83,23 @@ class Crate:
             shutil.rmtree(over.parent)
 
 
+def build_library(place: Path, name: str) -> int:
+    """Builds the archive of a crate of a copy that `rt ci` proved, over the libraries that this
+    left: the crate is proved once more, and nothing below it."""
+    found = next(it for it in rtlib.crates_below(str(place)) if it.name == name)
+    words = [*rtlib.guarded(), rtlib.RATTLE, "build",
+             *found.words(["--jobs", os.environ.get("RT_JOBS") or "2"], keeps=False),
+             "--toolchain", f"{rtlib.KIT}/toolchain", "--backend", "llvm",
+             "-o", f"out/lib{name}.a"]
+    Path(found.folder, "out").mkdir(exist_ok=True)
+    ran = subprocess.run(words, cwd=found.folder, text=True, errors="replace",
+                         stdin=subprocess.DEVNULL, stdout=subprocess.PIPE,
+                         stderr=subprocess.STDOUT)
+    if ran.returncode:
+        print(ran.stdout[-3000:])
+    return ran.returncode
+
+
 @contextlib.contextmanager
 def proved(names: list[str]) -> Iterator[tuple[Path, Path]]:
     """A copy of the tree in which these crates and all below them are proved, and a folder for
