@@ -22,7 +22,8 @@ use Rattle.page_env.specs.Forms.{Across, Down, Filled, FormGoes, HasPage, Height
 use Rattle.page_env.specs.Mark.{Rectangle, Shape, is_inside}
 use Rattle.page_env.specs.Motion.{line_termination_reads}
 use Rattle.page_env.specs.Numbers.{is_absent, is_negative}
-use Rattle.page_env.specs.Places.{geometry_of, home_of, is_between, origin_on, page_reads, place_between, target_of, unit_ticks, vertical_reads}
+use Rattle.page_env.specs.Places.{geometry_of, home_of, is_between, origin_on, page_reads, place_between, target_of}
+use Rattle.page_env.specs.Places.{unit_ticks, vertical_reads}
 use Rattle.page_env.specs.Rectangles.{fill_of, rectangle_at}
 use Rattle.page_env.specs.Settings.{Settings, State, settings_at, state_at, with_job}
 use Rattle.page_env.specs.Text.{text_reads}

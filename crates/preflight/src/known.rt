@@ -24,8 +24,8 @@ use pcl_lexer::PlacedItem;
 use std::alloc::Allocator;
 
 impl<'p, A: Allocator + Copy, P: Allocator> Lockstep<'p, A, P> {
-    /// Has each machine execute a command as `step_read` does, by the page in force, where that is known. It is kept while the
-    /// commands leave it, and so is what text takes from it.
+    /// Has each machine execute a command as `step_read` does, by the page in force, where that is
+    /// known. It is kept while the commands leave it, and so is what text takes from it.
     #[inline(always)]
     pub fn step_known(
         &mut self,
@@ -117,7 +117,7 @@ impl<'p, A: Allocator + Copy, P: Allocator> Lockstep<'p, A, P> {
         }
     }
 
-    /// Has the machines execute such a command on this page, where it suffices to move the first machine.
+    /// Has the machines execute such a command on this page, where it suffices to move the first.
     #[inline(always)]
     fn form_on(&mut self, page: &Geometry, command: Command, n: Number) -> bool
         requires running { AreRunning (machines_of self.old) }
@@ -139,8 +139,8 @@ impl<'p, A: Allocator + Copy, P: Allocator> Lockstep<'p, A, P> {
         true
     }
 
-    /// Has each machine execute lines of text as `execute_text` does, where the page is known, which
-    /// stays, and keeps what text takes from the settings.
+    /// Has each machine execute lines of text as `execute_text` does, where the page is known. That
+    /// stays, and what text takes from the settings is kept.
     #[inline]
     pub fn execute_on_page(
         &mut self,

@@ -37,8 +37,8 @@ pub returns-then-not-step_known : goal.returns-then-not-step_known
 returns-then-not-step_known g c =
     let step = c.step_known.ensures in
     answered _ _ _ _ c.if-not-step_known.true
-    (item_behind _ _ _ _ c.one_reading.ensures c.watched_runs_are_alike.ensures _ _ _ refl c.loop-read.invariant.goes c.in-Some.ensures.command
-    step.open step.told step.untold step.came)
+    (item_behind _ _ _ _ c.one_reading.ensures c.watched_runs_are_alike.ensures _ _ _ refl c.loop-read.invariant.goes
+    c.in-Some.ensures.command step.open step.told step.untold step.came)
 
 -- ---- the end of a line
 
@@ -85,7 +85,8 @@ execute_text-requires-clause-measured g c = c.loop-read.invariant.measured
 pub execute_text-requires-clause-modes : goal.execute_text-requires-clause-modes
 execute_text-requires-clause-modes g c =
     let here = c.in_default-next_line_end.ensures.none ∙ c.in_default.ensures.none in
-    subst (λ lexer. AreIn (mode_of lexer.context) (machines_of c.loop-read.self.machines)) (sym here) c.loop-read.invariant.goes.through.modes
+    subst (λ lexer. AreIn (mode_of lexer.context) (machines_of c.loop-read.self.machines)) (sym here)
+    c.loop-read.invariant.goes.through.modes
 
 pub loop-read-preserved : goal.loop-read-preserved
 loop-read-preserved g c =
