@@ -9,7 +9,6 @@ use Rattle.std.proofs.Math.Nat.{mul-le-mul_left}
 use Rattle.std.proofs.lemmas.List.{at_drop_more, at_drop_all, length-drop, take_all}
 use Rattle.std.proofs.lemmas.List.Sums.{take_while-cons}
 use Rattle.pcl_items.specs.declared.number.Sign.{Sign}
-use Rattle.pcl_items.specs.declared.number.Sign.TheVariants as signs
 use Rattle.pcl_items.specs.Escapes.Value.{Amount, most}
 use Rattle.pcl_lexer.specs.Escapes.Field.{Field, field_at, digits, sign_at, sign_len, has_point, next_digit, decimal, four}
 use Rattle.pcl_lexer.specs.Escapes.Field.{ten_thousandths_of, amount_of}
@@ -254,16 +253,6 @@ rest_from l n = take (length l - n) (drop n l)
 
 pub rest_is : (l : List ℕ) (n : ℕ) → rest_from l n ≡ drop n l
 rest_is l n = take_all (length l - n) (drop n l) (omega (arith, length-drop n l))
-
--- a sign is at most one character
-pub short_sign : (s : Sign) → sign_len s ≤ 1
-short_sign signs.Absent = omega arith
-short_sign signs.Plus = omega arith
-short_sign signs.Minus = omega arith
-
--- no point stands where another byte does
-pub no_point_at : (l : List ℕ) (n b : ℕ) → n < length l → b ≡ get_or l n 0 → (b == 46) ≡ false → has_point (drop n l) ≡ false
-no_point_at l n b inside is other = at_drop_more has_point l n 0 inside ∙ ap (λ c. c == 46) (sym is) ∙ other
 
 -- the parts of a field that is read, without a point and with one
 pub parts_without_point : (l : List ℕ) (s : Sign) (start len : ℕ) → s ≡ sign_at l → start ≡ sign_len (sign_at l) →

@@ -1,10 +1,10 @@
 //! Value fields.
 
 ghost use Rattle.std.specs.Prelude.{◌≡◌, ◌≤◌, ◌<◌, ◌+◌, ◌^◌, ◌==◌, nat_le, if◌then◌else◌, IsTrue};
-ghost use Rattle.std.specs.Prelude.{min, length, fold, drop, get_or, None, IfSome};
+ghost use Rattle.std.specs.Prelude.{min, length, fold, drop, None};
 ghost use Rattle.std.specs.List.{list_all};
 ghost use Rattle.std.specs.Option.{option_map};
-ghost use Rattle.pcl_lexer.specs.Escapes.FieldEnd.{Ended, field_end, end_view, EndsWithin};
+ghost use Rattle.pcl_lexer.specs.Escapes.FieldEnd.{field_end, end_view, EndsWithin};
 ghost use Rattle.pcl_lexer.specs.Escapes.Field.{sign_at, sign_len, has_point, digits, decimal};
 ghost use Rattle.pcl_lexer.specs.Escapes.Field.{four, field_at, amount_of, next_digit};
 ghost use Rattle.pcl_lexer.specs.Escapes.Field.{within_limit};
@@ -113,36 +113,6 @@ pub fn field_end(bytes: &[u8]) -> FieldEnd
     })
 }
 
-/// The field in front, where it is a short one: a whole number of few digits, behind which stands a
-/// byte that is no point.
-// Most fields are such, and need none of the tests of the others.
-#[inline(always)]
-pub fn short_field(bytes: &[u8]) -> Option<EndedField>
-    ensures end { IfSome result
-        (λ field. Ended (amount field.number) field.len field.last ≡ field_end bytes.now) }
-    ensures within { IfSome result (λ field. field.len < length bytes.now) }
-{
-    let (sign, start) = leading_sign(bytes);
-    let whole = few_digits(&bytes[start..])?;
-    let last = byte_at(bytes, start + whole.len);
-    if is_point(last) {
-        return None;
-    }
-    let ten_thousandths = 10_000 * whole.number;
-    if ten_thousandths > MOST_TEN_THOUSANDTHS {
-        return None;
-    }
-    let number = Number {
-        sign,
-        ten_thousandths,
-    };
-    Some(EndedField {
-        len: start + whole.len,
-        number,
-        last,
-    })
-}
-
 /// The longest field in front.
 #[inline(always)]
 pub fn longest_field(bytes: &[u8]) -> Field
@@ -207,23 +177,6 @@ pub fn leading_sign(bytes: &[u8]) -> (Sign, usize)
     }
 }
 
-/// The byte at a place.
-#[inline(always)]
-fn byte_at(bytes: &[u8], at: usize) -> u8
-    requires { at < length bytes.now }
-    ensures { result ≡ get_or bytes.now at 0 }
-{
-    bytes[at]
-}
-
-/// Whether a byte is a point.
-#[inline(always)]
-fn is_point(byte: u8) -> bool
-    ensures { result ≡ (byte == 46) }
-{
-    byte == b'.'
-}
-
 #[inline(always)]
 pub fn is_point_at(bytes: &[u8], at: usize) -> bool
     requires { at ≤ length bytes.now }
@@ -257,26 +210,6 @@ pub fn leading_digits(bytes: &[u8], past: u32) -> Digits
 /// So many bytes decide a whole number that has fewer digits, as nearly each has.
 const FEW: usize = 8;
 
-/// The digits in front, and what they stand for, but for numbers past the limit of a field, where
-/// they are few and so many bytes stand there.
-#[inline(always)]
-fn few_digits(bytes: &[u8]) -> Option<Digits>
-    ensures len { IfSome result (λ whole. whole.len ≡ length (digits bytes.now)) }
-    ensures few { IfSome result (λ whole. whole.len < 8) }
-    ensures within { IfSome result (λ whole. whole.len < length bytes.now) }
-    ensures number { IfSome result
-        (λ whole. whole.number ≡ min (decimal (digits bytes.now)) 65_536) }
-{
-    if bytes.len() >= FEW {
-        // The loop over the digits is unrolled, since there are always so many bytes.
-        let whole = leading_digits(&bytes[..FEW], PAST_LIMIT);
-        if whole.len < FEW {
-            return Some(whole);
-        }
-    }
-    None
-}
-
 // The digits in front, and what they stand for, but for numbers past the limit of a field.
 #[inline(always)]
 fn leading_whole(bytes: &[u8]) -> Digits
@@ -284,10 +217,14 @@ fn leading_whole(bytes: &[u8]) -> Digits
     ensures within { result.len ≤ length bytes.now }
     ensures number { result.number ≡ min (decimal (digits bytes.now)) 65_536 }
 {
-    match few_digits(bytes) {
-        Some(whole) => whole,
-        None => all_leading_digits(bytes),
+    if bytes.len() >= FEW {
+        // The loop over the digits is unrolled, since there are always so many bytes.
+        let whole = leading_digits(&bytes[..FEW], PAST_LIMIT);
+        if whole.len < FEW {
+            return whole;
+        }
     }
+    all_leading_digits(bytes)
 }
 
 // The same of any number of digits: a call of its own, since few fields have many.

@@ -5,10 +5,10 @@
 
 ghost use Rattle.std.specs.Prelude.{◌≤◌, length, IfSome};
 ghost use Rattle.pcl_lexer.specs.Lexing.FirstView.{context_view};
-ghost use Rattle.pcl_lexer.specs.Escapes.ReadCommands.{IsAhead, IsEndedBy, IsInGroup};
+ghost use Rattle.pcl_lexer.specs.Escapes.ReadCommands.{IsAhead, IsInGroup};
 
 use crate::lexer::first::Context;
-use crate::pcl::field::{EndedField, FieldEnd, field_end, short_field};
+use crate::pcl::field::{FieldEnd, field_end};
 use pcl_items::{Command, Group, Number};
 
 /// A command with its number, how many bytes spell it, and what stands before the bytes after them.
@@ -52,41 +52,9 @@ pub fn parameterized_in(context: Context, bytes: &[u8]) -> Option<ReadCommand>
 fn command(group: Group, bytes: &[u8]) -> Option<ReadCommand>
     ensures { IfSome result (λ read. IsInGroup read group bytes.now) }
 {
-    match short_field(bytes) {
-        Some(field) => command_with(group, field),
-        None => command_behind(group, bytes),
-    }
-}
-
-/// The same behind a value field of any kind.
-// It matches the answer in a function of its own, which is inlined: so short fields clear no room
-// for one.
-#[inline(always)]
-fn command_behind(group: Group, bytes: &[u8]) -> Option<ReadCommand>
-    ensures { IfSome result (λ read. IsInGroup read group bytes.now) }
-{
-    let Some(read) = any_command(group, bytes) else {
-        return None;
-    };
-    Some(read)
-}
-
-/// The same in a call of its own, since most fields are short.
-#[inline(never)]
-fn any_command(group: Group, bytes: &[u8]) -> Option<ReadCommand>
-    ensures { IfSome result (λ read. IsInGroup read group bytes.now) }
-{
     let FieldEnd::Ended(field) = field_end(bytes) else {
         return None;
     };
-    command_with(group, field)
-}
-
-/// The command of a group with this value field.
-#[inline(always)]
-fn command_with(group: Group, field: EndedField) -> Option<ReadCommand>
-    ensures { IfSome result (λ read. IsEndedBy read group field) }
-{
     // The letters of commands are capital ones, so a byte that is no letter names none.
     let (letter, next) = match field.last {
         0..=95 => (field.last, Context::Pcl),

@@ -1,12 +1,7 @@
-use Rattle.std.proofs.Common.{length, min, ap, ◌∙◌, arith}
+use Rattle.std.proofs.Common.{min, ap, ◌∙◌, arith}
 use Rattle.pcl_lexer.specs.Escapes.Field.{decimal}
 use Rattle.pcl_lexer.proofs.Escapes.Digits.{digits_in_front}
-use Rattle.pcl_lexer.proofs.pcl.field.few_digits.Goals as goal
-
-pub returns-then-whole-lt-FEW-clause-len : goal.returns-then-whole-lt-FEW-clause-len
-returns-then-whole-lt-FEW-clause-len c =
-    let whole = c.leading_digits-whole.ensures in
-    whole.len ∙ ap length (digits_in_front 8 c.args.bytes.now (omega (arith, whole.len, c.if-whole-lt-FEW.true)))
+use Rattle.pcl_lexer.proofs.pcl.field.leading_whole.Goals as goal
 
 pub returns-then-whole-lt-FEW-clause-number : goal.returns-then-whole-lt-FEW-clause-number
 returns-then-whole-lt-FEW-clause-number c =
