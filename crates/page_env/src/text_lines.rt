@@ -165,7 +165,7 @@ fn page_and_request<'p, A: Allocator>(
 }
 
 /// The printable area of a page.
-fn area_of(geometry: &Geometry) -> Bounds
+pub(crate) fn area_of(geometry: &Geometry) -> Bounds
     ensures { result ≡ area_of geometry.now }
 {
     Bounds {

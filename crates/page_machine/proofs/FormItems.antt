@@ -1,7 +1,6 @@
--- Moves and rectangles that go on a page that is known are items that are carried out.
-use Rattle.std.proofs.Common.{◌≡◌, ℕ, cond, is_some, Option, None, Some, unwrap_or, List, map, refl, sym, ap, subst, ◌∙◌}
+-- Moves and rectangles that go are items that are carried out.
+use Rattle.std.proofs.Common.{◌≡◌, ℕ, cond, is_some, Option, None, Some, unwrap_or, List, [], map, refl, sym, ap, subst, ◌∙◌}
 use Rattle.std.specs.Prelude.{IfSome}
-use Rattle.device_profile.specs.declared.geometry.Geometry.{Geometry}
 use Rattle.device_profile.specs.declared.panel.Panel.{Panel}
 use Rattle.device_profile.specs.Printer.{Printer}
 use Rattle.pcl_items.specs.Escapes.Value.{Amount}
@@ -13,7 +12,9 @@ use Rattle.pcl_items.specs.Items.{Entry, Parameterized}
 use Rattle.pcl_items.specs.Modes.{follows}
 use Rattle.page_env.specs.declared.page.Page.{Page}
 use Rattle.page_env.specs.Effect.{Goes, effect_of}
-use Rattle.page_env.specs.Forms.{Across, Down, Filled, Form, FormGoes, FormsBy, Height, Width, command_of}
+use Rattle.page_env.specs.declared.forms.FormBounds.{FormBounds}
+use Rattle.page_env.specs.Forms.{Across, AcrossDecipoints, Columns, Down, DownDecipoints, Filled, Form, FormGoes, FormsBy, Height}
+use Rattle.page_env.specs.Forms.{Rows, Width, command_of}
 use Rattle.page_env.specs.Mark.{Shape}
 use Rattle.page_env.specs.Settings.{Settings, State, state_at}
 use Rattle.page_env.specs.Table.{command_transition}
@@ -33,6 +34,10 @@ one_step : (printer : Printer) (conditions : Conditions) (s : State) (n : Amount
     (effect_of s.settings (command_transition printer conditions.defaults (record s { raster = None }) (command_of form) n))
 one_step printer conditions s n Across = refl
 one_step printer conditions s n Down = refl
+one_step printer conditions s n AcrossDecipoints = refl
+one_step printer conditions s n DownDecipoints = refl
+one_step printer conditions s n Columns = refl
+one_step printer conditions s n Rows = refl
 one_step printer conditions s n Width = refl
 one_step printer conditions s n Height = refl
 one_step printer conditions s n Filled = refl
@@ -53,6 +58,18 @@ module _ (machine : MachineState) (n : Amount) (none : machine.macros.definition
       ap (λ d. cond (is_some d) (defined_after item (defining_of item) machine.macros) machine.macros) none
   macros_stay Down =
       let item : Entry = Parameterized commands.VerticalUnits n in
+      ap (λ d. cond (is_some d) (defined_after item (defining_of item) machine.macros) machine.macros) none
+  macros_stay AcrossDecipoints =
+      let item : Entry = Parameterized commands.HorizontalDecipoints n in
+      ap (λ d. cond (is_some d) (defined_after item (defining_of item) machine.macros) machine.macros) none
+  macros_stay DownDecipoints =
+      let item : Entry = Parameterized commands.VerticalDecipoints n in
+      ap (λ d. cond (is_some d) (defined_after item (defining_of item) machine.macros) machine.macros) none
+  macros_stay Columns =
+      let item : Entry = Parameterized commands.Column n in
+      ap (λ d. cond (is_some d) (defined_after item (defining_of item) machine.macros) machine.macros) none
+  macros_stay Rows =
+      let item : Entry = Parameterized commands.Row n in
       ap (λ d. cond (is_some d) (defined_after item (defining_of item) machine.macros) machine.macros) none
   macros_stay Width =
       let item : Entry = Parameterized commands.RectangleWidth n in
@@ -116,9 +133,9 @@ module _ (machine : MachineState) (n : Amount) (none : machine.macros.definition
   }
 
 -- so it is with what is answered of a command
-pub forms_run : (g : Geometry) (machine : MachineState) (command : Command) (n : Amount) (page : Page) (answer : Option ℕ) →
-    FormsBy g command n machine.page page answer →
-    IfSome answer (λ marks. FormsOn g machine → RunsForm command n marks machine (record machine { page = page }))
-forms_run g machine command n page None goes = tt
-forms_run g machine command n page (Some marks) goes = λ on.
-    form_runs machine n on.no_definition command marks page on.page.no_raster on.mode (goes machine.printer on.page)
+pub forms_run : (bounds : FormBounds) (machine : MachineState) (command : Command) (n : Amount) (page : Page) (answer : Option ℕ) →
+    FormsBy bounds command n machine.page page answer →
+    IfSome answer (λ marks. FormsOn bounds machine → RunsForm command n marks machine (record machine { page = page }))
+forms_run bounds machine command n page None goes = tt
+forms_run bounds machine command n page (Some marks) goes = λ on.
+    form_runs machine n on.no_definition command marks page on.page.has.no_raster on.mode (goes machine.printer on.page)

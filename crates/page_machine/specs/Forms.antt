@@ -1,12 +1,12 @@
--- Moves and rectangles that a machine carries out on a page that is known, one behind another.
+-- Moves and rectangles that a machine carries out, one behind another, by what is looked up of its page.
 use Rattle.std.specs.Prelude.{◌≡◌, ℕ, None, List, [], length, map}
-use Rattle.device_profile.specs.declared.geometry.Geometry.{Geometry}
 use Rattle.device_profile.specs.declared.panel.Panel.{Panel}
 use Rattle.pcl_items.specs.Escapes.Value.{Amount}
 use Rattle.pcl_items.specs.declared.item.Mode.TheVariants.{Pcl}
 use Rattle.pcl_items.specs.declared.pcl.command.Command.{Command}
 use Rattle.pcl_items.specs.Items.{Parameterized}
-use Rattle.page_env.specs.Forms.{Form, HasPage, LeavesRest, command_of}
+use Rattle.page_env.specs.declared.forms.FormBounds.{FormBounds}
+use Rattle.page_env.specs.Forms.{Form, HasBounds, LeavesRest, command_of}
 use Rattle.page_env.specs.Mark.{Shape}
 use Rattle.page_env.specs.Settings.{state_at}
 use Rattle.page_machine.specs.Event.{Marked}
@@ -14,9 +14,9 @@ use Rattle.page_machine.specs.Run.{Done, after, just, peaks_of}
 use Rattle.page_machine.specs.MachineState.{MachineState}
 use Rattle.page_machine.specs.Machine.{item_of}
 
--- the page in force on the machine is this one; it may go on in mode PCL, and no definition is open
-pub record FormsOn (g : Geometry) (machine : MachineState) : Type 0 where
-  pub page : HasPage machine.printer machine.page g
+-- what moves and rectangles take from the machine, which may go on in mode PCL; no definition is open
+pub record FormsOn (bounds : FormBounds) (machine : MachineState) : Type 0 where
+  pub page : HasBounds machine.printer machine.page bounds
   pub no_definition : machine.macros.definition ≡ None
   pub mode : machine.mode ≡ Pcl
 

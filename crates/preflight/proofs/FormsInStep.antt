@@ -1,20 +1,21 @@
 -- Commands of forms that the machines of a fleet execute in step.
 use Rattle.std.specs.Prelude.{IfSome}
 use Rattle.std.proofs.Common.{◌≡◌, ◌⊎◌, inl, inr, ℕ, true, false, Option, None, Some, List, [], ◌∷◌, map, refl, sym, ap, subst, ◌∙◌}
-use Rattle.device_profile.specs.declared.geometry.Geometry.{Geometry}
 use Rattle.device_profile.specs.Printer.{Printer}
 use Rattle.pcl_items.specs.declared.pcl.command.Command.{Command}
 use Rattle.pcl_items.specs.Escapes.Value.{Amount}
 use Rattle.pcl_items.specs.Items.{Entry, Parameterized}
 use Rattle.page_env.specs.declared.page.Page.{Page}
-use Rattle.page_env.specs.Forms.{Across, Down, Filled, Form, Height, LeavesRest, Width, command_of}
+use Rattle.page_env.specs.declared.forms.FormBounds.{FormBounds}
+use Rattle.page_env.specs.Forms.{Across, AcrossDecipoints, Columns, Down, DownDecipoints, Filled, Form, Height, LeavesRest, Rows}
+use Rattle.page_env.specs.Forms.{Width, command_of}
 use Rattle.page_env.specs.Likeness.{command_asks_alike}
 use Rattle.page_env.specs.Settings.{state_at}
 use Rattle.page_env.specs.declared.text_lines.TextAppearance.{TextAppearance}
 use Rattle.page_env.specs.declared.text_lines.TextPlace.{TextPlace}
 use Rattle.page_env.specs.TextLines.{behind}
 use Rattle.page_env.specs.TextMeasure.{TextMeasure}
-use Rattle.page_env.proofs.FormFacts.{measure_still, page_still}
+use Rattle.page_env.proofs.FormFacts.{bounds_still, measure_still}
 use Rattle.page_machine.specs.Event.{Event, Marked}
 use Rattle.page_machine.specs.Forms.{FormsOn, RunsForm}
 use Rattle.page_machine.specs.Likeness.{RunsOnLike}
@@ -33,6 +34,10 @@ use Rattle.preflight.proofs.FleetModes.{all_do, none_asks, still_formed}
 form_asks : (form : Form) (p q : Printer) (n : Amount) → command_asks_alike p q (command_of form) n ≡ true
 form_asks Across p q n = refl
 form_asks Down p q n = refl
+form_asks AcrossDecipoints p q n = refl
+form_asks DownDecipoints p q n = refl
+form_asks Columns p q n = refl
+form_asks Rows p q n = refl
 form_asks Width p q n = refl
 form_asks Height p q n = refl
 form_asks Filled p q n = refl
@@ -70,19 +75,24 @@ module _ (law : (item : Entry) → RunsOnLike item) (command : Command) (n : Amo
   pub formed_still : IsFormed fleet_mode first' others
   formed_still = still_formed law item events first first' first_does fleet_mode others formed (as_one fleet_mode together)
 
--- a page that is known stays known
-pub forms_kept : (g : Geometry) (old new : List MachineState) → FirstKeeps old new → FirstForms g old → FirstForms g new
-forms_kept g [] new kept forms = absurd forms
-forms_kept g (m ∷ ms) [] kept forms = absurd kept
-forms_kept g (m ∷ ms) (m' ∷ ms') kept forms =
-    subst (λ (x : MachineState). FormsOn g x × (x.page.env.job.overlay ≡ None)) (sym kept.0) (
+-- what moves and rectangles take stays what it is
+pub forms_kept : (bounds : FormBounds) (old new : List MachineState) → FirstKeeps old new → FirstForms bounds old → FirstForms bounds new
+forms_kept bounds [] new kept forms = absurd forms
+forms_kept bounds (m ∷ ms) [] kept forms = absurd kept
+forms_kept bounds (m ∷ ms) (m' ∷ ms') kept forms =
+    subst (λ (x : MachineState). FormsOn bounds x × (x.page.env.job.overlay ≡ None)) (sym kept.0) (
       record {
-        page = page_still m.printer m.page m'.page g kept.1 forms.0.page;
+        page = bounds_still m.printer m.page m'.page bounds kept.1 forms.0.page;
         no_definition = forms.0.no_definition;
         mode = forms.0.mode;
       },
       ap (λ (p : Page). p.env.job.overlay) kept.1 ∙ forms.1,
     )
+
+pub bound_kept : (known : Option FormBounds) (old new : List MachineState) → FirstKeeps old new →
+    IfSome known (λ bounds. FirstForms bounds old) → IfSome known (λ bounds. FirstForms bounds new)
+bound_kept None old new kept forms = tt
+bound_kept (Some bounds) old new kept forms = forms_kept bounds old new kept forms
 
 -- what text takes stays what it is
 pub measures_kept : (measure : TextMeasure) (old new : List MachineState) → FirstKeeps old new → FirstMeasures measure old →

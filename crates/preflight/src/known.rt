@@ -2,7 +2,7 @@
 //! lines of text on a page that is looked up once.
 
 ghost use Rattle.std.specs.Prelude.{◌≡◌, ◌≤◌, length, take, IfSome, IsFalse, IsTrue};
-ghost use Rattle.device_profile.specs.declared.geometry.Geometry.{Geometry};
+ghost use Rattle.page_env.specs.declared.forms.FormBounds.{FormBounds};
 ghost use Rattle.pcl_items.specs.Items.{Parameterized, amount, simple_view};
 ghost use Rattle.pcl_items.specs.Lines.{AreLines};
 ghost use Rattle.preflight.specs.Carriers.FormsInStep.{FirstForms, FirstKeeps, FirstMeasures};
@@ -16,21 +16,20 @@ ghost use Rattle.preflight.specs.declared.check_state.CheckState.TheVariants.{Op
 use crate::check_state::CheckState;
 use crate::failing_item::FailingItem;
 use crate::lockstep::{FleetMode, Lockstep};
-use device_profile::Geometry;
-use page_env::{TextMeasure, is_of_forms, items_go_on_like_printers};
+use page_env::{FormBounds, TextMeasure, is_of_forms, items_go_on_like_printers};
 use page_machine::items_run_on_like_printers;
 use pcl_items::{Command, Number, SimpleItem};
 use pcl_lexer::PlacedItem;
 use std::alloc::Allocator;
 
 impl<'p, A: Allocator + Copy, P: Allocator> Lockstep<'p, A, P> {
-    /// Has each machine execute a command as `step_read` does, by the page in force, where that is
-    /// known. It is kept while the commands leave it, and so is what text takes from it.
+    /// Has each machine execute a command as `step_read` does, by what is known of the page, where
+    /// it is. That is kept while the commands leave it, and so is what text takes.
     #[inline(always)]
     pub fn step_known(
         &mut self,
         read: PlacedItem,
-        known: &mut Option<&'p Geometry>,
+        known: &mut Option<FormBounds>,
         measure: &mut Option<TextMeasure<'p, P>>,
         state: &mut CheckState,
         failing_item: &mut Option<FailingItem>,
@@ -38,7 +37,7 @@ impl<'p, A: Allocator + Copy, P: Allocator> Lockstep<'p, A, P> {
         requires running { AreRunning (machines_of self.old) }
         requires admitted { AllAdmit (Execute (simple_view read.item)) (machines_of self.old) }
         requires open { state.old ≡ Open }
-        requires known { IfSome known.old (λ page. FirstForms page.now (machines_of self.old)) }
+        requires known { IfSome known.old (λ bounds. FirstForms bounds (machines_of self.old)) }
         requires measured { IfSome measure.old (λ m. FirstMeasures m (machines_of self.old)) }
         ensures came { StandsBy state.new
             (λ failed. GoesInStep (Execute (simple_view read.item)) read.place
@@ -48,7 +47,7 @@ impl<'p, A: Allocator + Copy, P: Allocator> Lockstep<'p, A, P> {
         ensures told { IsFalse result → Names failing_item.new (simple_view read.item) }
         ensures untold { IsTrue result → failing_item.new ≡ failing_item.old }
         ensures known { IsTrue result →
-            IfSome known.new (λ page. FirstForms page.now (machines_of self.new)) }
+            IfSome known.new (λ bounds. FirstForms bounds (machines_of self.new)) }
         ensures measured { IsTrue result →
             IfSome measure.new (λ m. FirstMeasures m (machines_of self.new)) }
     {
@@ -63,14 +62,14 @@ impl<'p, A: Allocator + Copy, P: Allocator> Lockstep<'p, A, P> {
     /// Has the machines execute a command that moves the cursor or makes a rectangle, where it is
     /// known that it goes on all of them, and tells whether it was executed.
     #[inline(always)]
-    fn form(&mut self, item: SimpleItem, known: &mut Option<&'p Geometry>) -> bool
+    fn form(&mut self, item: SimpleItem, known: &mut Option<FormBounds>) -> bool
         requires running { AreRunning (machines_of self.old) }
-        requires known { IfSome known.old (λ page. FirstForms page.now (machines_of self.old)) }
+        requires known { IfSome known.old (λ bounds. FirstForms bounds (machines_of self.old)) }
         ensures formed { IsTrue result → GoesAlike (Execute (simple_view item))
             (machines_of self.old) (machines_of self.new)
             (counts_of self.old) (counts_of self.new) }
         ensures known { IsTrue result →
-            IfSome known.new (λ page. FirstForms page.now (machines_of self.new)) }
+            IfSome known.new (λ bounds. FirstForms bounds (machines_of self.new)) }
         ensures kept { IsTrue result → FirstKeeps (machines_of self.old) (machines_of self.new) }
         ensures same { IsFalse result → self.new ≡ self.old }
     {
@@ -80,48 +79,46 @@ impl<'p, A: Allocator + Copy, P: Allocator> Lockstep<'p, A, P> {
         if !is_of_forms(command) {
             return false;
         }
-        let Some(page) = self.page_on(*known) else {
-            return false;
-        };
-        if !self.form_on(page, command, n) {
-            return false;
+        self.keep_bounds(known);
+        match &*known {
+            None => false,
+            Some(lent) => self.form_on(lent, command, n),
         }
-        *known = Some(page);
-        true
     }
 
-    /// The page in force, where it is known, or may be looked up.
+    /// Keeps what moves and rectangles take from where the machines stand, if that is known and it
+    /// suffices to move the first.
     #[inline(always)]
-    fn page_on(&self, known: Option<&'p Geometry>) -> Option<&'p Geometry>
-        requires { IfSome known (λ page. FirstForms page.now (machines_of self.now)) }
-        ensures { IfSome result (λ page. FirstForms page.now (machines_of self.now)) }
+    fn keep_bounds(&self, known: &mut Option<FormBounds>)
+        requires { IfSome known.old (λ bounds. FirstForms bounds (machines_of self.now)) }
+        ensures { IfSome known.new (λ bounds. FirstForms bounds (machines_of self.now)) }
     {
-        match known {
-            Some(page) => Some(page),
-            None => self.known_page(),
+        if known.is_some() {
+            return;
         }
+        *known = self.form_bounds();
     }
 
-    /// The page in force on the first machine, if it is known and it suffices to move that one.
-    /// Nothing is told where an overlay is enabled, since it may part the machines.
+    /// What moves and rectangles take on the first machine, if that is known and it suffices to
+    /// move that one. Nothing is told where an overlay is enabled, since it may part the machines.
     #[inline(always)]
-    fn known_page(&self) -> Option<&'p Geometry>
-        ensures { IfSome result (λ page. FirstForms page.now (machines_of self.now)) }
+    fn form_bounds(&self) -> Option<FormBounds>
+        ensures { IfSome result (λ bounds. FirstForms bounds (machines_of self.now)) }
     {
         if self.first.has_overlay() {
             return None;
         }
         match self.fleet_mode {
-            FleetMode::Alone | FleetMode::Together => self.first.known_page(),
+            FleetMode::Alone | FleetMode::Together => self.first.form_bounds(),
             FleetMode::Apart => None,
         }
     }
 
-    /// Has the machines execute such a command on this page, where it suffices to move the first.
+    /// Has the machines execute such a command, where it suffices to move the first.
     #[inline(always)]
-    fn form_on(&mut self, page: &Geometry, command: Command, n: Number) -> bool
+    fn form_on(&mut self, bounds: &FormBounds, command: Command, n: Number) -> bool
         requires running { AreRunning (machines_of self.old) }
-        requires known { FirstForms page.now (machines_of self.old) }
+        requires known { FirstForms bounds.now (machines_of self.old) }
         ensures formed { IsTrue result → GoesAlike (Execute (Parameterized command (amount n)))
             (machines_of self.old) (machines_of self.new)
             (counts_of self.old) (counts_of self.new) }
@@ -132,7 +129,7 @@ impl<'p, A: Allocator + Copy, P: Allocator> Lockstep<'p, A, P> {
         let (FleetMode::Alone | FleetMode::Together) = self.fleet_mode else {
             return false;
         };
-        let Some(marks) = self.first.form_on(page, command, n) else {
+        let Some(marks) = self.first.form_on(bounds, command, n) else {
             return false;
         };
         self.counts.add_marks(marks);
@@ -154,8 +151,8 @@ impl<'p, A: Allocator + Copy, P: Allocator> Lockstep<'p, A, P> {
         ensures step { PrintInStep (take result bytes.now) (machines_of self.old)
             (machines_of self.new) (counts_of self.old) (counts_of self.new) }
         ensures measured { IfSome measure.new (λ m. FirstMeasures m (machines_of self.new)) }
-        ensures kept { (page : Geometry) → FirstForms page (machines_of self.old) →
-            FirstForms page (machines_of self.new) }
+        ensures kept { (bounds : FormBounds) → FirstForms bounds (machines_of self.old) →
+            FirstForms bounds (machines_of self.new) }
     {
         match bytes {
             [b' '..=255, ..] => self.execute_begun(bytes, measure),
@@ -174,8 +171,8 @@ impl<'p, A: Allocator + Copy, P: Allocator> Lockstep<'p, A, P> {
         ensures step { PrintInStep (take result bytes.now) (machines_of self.old)
             (machines_of self.new) (counts_of self.old) (counts_of self.new) }
         ensures measured { IfSome measure.new (λ m. FirstMeasures m (machines_of self.new)) }
-        ensures kept { (page : Geometry) → FirstForms page (machines_of self.old) →
-            FirstForms page (machines_of self.new) }
+        ensures kept { (bounds : FormBounds) → FirstForms bounds (machines_of self.old) →
+            FirstForms bounds (machines_of self.new) }
     {
         self.keep_measure(measure);
         match &*measure {

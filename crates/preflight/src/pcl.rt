@@ -13,8 +13,7 @@ ghost use Rattle.preflight.specs.Carriers.TextInStep.{PrintInStep};
 
 use crate::checking::Checking;
 use crate::lockstep::Lockstep;
-use device_profile::Geometry;
-use page_env::TextMeasure;
+use page_env::{FormBounds, TextMeasure};
 use page_machine::watched_runs_are_alike;
 use pcl_lexer::{Lexer, one_reading};
 use std::alloc::Allocator;
@@ -30,7 +29,8 @@ impl<A: Allocator + Copy, P: Allocator> Checking<'_, A, P> {
     {
         one_reading();
         watched_runs_are_alike();
-        // The page in force, where it is known since the command before, and what text takes.
+        // What moves and rectangles take, where it is known since the command before, and what text
+        // takes.
         let mut known = None;
         let mut measure = None;
         loop {
@@ -49,7 +49,7 @@ impl<A: Allocator + Copy, P: Allocator> Checking<'_, A, P> {
                 if !self.machines.step_line_end(read, state, failing_item) {
                     return false;
                 }
-            } else if !execute_text(&mut self.lexer, &mut self.machines, known, &mut measure) {
+            } else if !execute_text(&mut self.lexer, &mut self.machines, &known, &mut measure) {
                 return true;
             }
         }
@@ -62,12 +62,12 @@ impl<A: Allocator + Copy, P: Allocator> Checking<'_, A, P> {
 fn execute_text<'p, A: Allocator + Copy, P: Allocator>(
     lexer: &mut Lexer<A>,
     machines: &mut Lockstep<'p, A, P>,
-    known: Option<&Geometry>,
+    known: &Option<FormBounds>,
     measure: &mut Option<TextMeasure<'p, P>>,
 ) -> bool
     requires running { AreRunning (machines_of machines.old) }
     requires modes { AreIn (mode_of lexer.old.context) (machines_of machines.old) }
-    requires known { IfSome known (λ page. FirstForms page.now (machines_of machines.old)) }
+    requires known { IfSome known.now (λ bounds. FirstForms bounds (machines_of machines.old)) }
     requires measured { IfSome measure.old (λ m. FirstMeasures m (machines_of machines.old)) }
     ensures running { AreRunning (machines_of machines.new) }
     ensures modes { AreIn (mode_of lexer.new.context) (machines_of machines.new) }
@@ -81,7 +81,7 @@ fn execute_text<'p, A: Allocator + Copy, P: Allocator>(
         left lexer.old.context lexer.old.rest }
     ensures less { IsTrue result → left lexer.new.context lexer.new.rest <
         left lexer.old.context lexer.old.rest }
-    ensures known { IfSome known (λ page. FirstForms page.now (machines_of machines.new)) }
+    ensures known { IfSome known.now (λ bounds. FirstForms bounds (machines_of machines.new)) }
     ensures measured { IfSome measure.new (λ m. FirstMeasures m (machines_of machines.new)) }
 {
     let passed = execute_ahead(machines, lexer.ahead(), known, measure);
@@ -97,17 +97,17 @@ fn execute_text<'p, A: Allocator + Copy, P: Allocator>(
 fn execute_ahead<'p, A: Allocator + Copy, P: Allocator>(
     machines: &mut Lockstep<'p, A, P>,
     bytes: &[u8],
-    known: Option<&Geometry>,
+    known: &Option<FormBounds>,
     measure: &mut Option<TextMeasure<'p, P>>,
 ) -> usize
     requires running { AreRunning (machines_of machines.old) }
-    requires known { IfSome known (λ page. FirstForms page.now (machines_of machines.old)) }
+    requires known { IfSome known.now (λ bounds. FirstForms bounds (machines_of machines.old)) }
     requires measured { IfSome measure.old (λ m. FirstMeasures m (machines_of machines.old)) }
     ensures short { result ≤ length bytes.now }
     ensures lines { AreLines (take result bytes.now) }
     ensures step { PrintInStep (take result bytes.now) (machines_of machines.old)
         (machines_of machines.new) (counts_of machines.old) (counts_of machines.new) }
-    ensures known { IfSome known (λ page. FirstForms page.now (machines_of machines.new)) }
+    ensures known { IfSome known.now (λ bounds. FirstForms bounds (machines_of machines.new)) }
     ensures measured { IfSome measure.new (λ m. FirstMeasures m (machines_of machines.new)) }
 {
     match known {

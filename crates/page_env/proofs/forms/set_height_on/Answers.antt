@@ -1,9 +1,11 @@
-use Rattle.std.proofs.Common.{◌∙◌, sym}
+use Rattle.std.proofs.Common.{◌∙◌, pos, sym, ap}
 use Rattle.pcl_items.specs.Items.{amount}
-use Rattle.page_env.proofs.FormFacts.{height_goes}
+use Rattle.page_env.proofs.FormFacts.{units_are, height_goes}
 use Rattle.page_env.proofs.forms.set_height_on.Goals as goal
 
 pub returns-clause-goes : goal.returns-clause-goes
-returns-clause-goes c = λ printer.
-    height_goes printer c.args.page.now (amount c.args.n) c.length_in.result (sym c.is_negative.ensures ∙ c.if-is_negative.false)
-    c.length_in.ensures
+returns-clause-goes c = λ printer has.
+    let page = c.args.page.now in
+    let n = amount c.args.n in
+    height_goes printer page n c.length_of.result (sym c.is_negative.ensures ∙ c.if-is_negative.false)
+    (c.length_of.ensures ∙ ap pos (c.units_on.ensures.value ∙ units_are printer page c.args.bounds.now has n))

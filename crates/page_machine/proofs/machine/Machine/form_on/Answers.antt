@@ -20,7 +20,7 @@ returns-clause-formed g c =
     subst
     (λ machine.
     IfSome c.form_on.result
-    (λ marks. FormsOn c.args.geometry.now machine →
+    (λ marks. FormsOn c.args.bounds.now machine →
     RunsForm c.args.command n marks machine (record fields { page = c.form_on.new.page })))
     c.self.view_is
-    (forms_run c.args.geometry.now fields c.args.command n c.form_on.new.page c.form_on.result c.form_on.ensures.goes)
+    (forms_run c.args.bounds.now fields c.args.command n c.form_on.new.page c.form_on.result c.form_on.ensures.goes)

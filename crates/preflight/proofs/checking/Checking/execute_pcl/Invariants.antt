@@ -7,7 +7,7 @@ use Rattle.preflight.proofs.checking.Checking.execute_pcl.Given as goal
 
 abbrev pub invariant-loop-read : goal.invariant-loop-read
 invariant-loop-read g l = record {
-  known : IfSome l.known (λ page. FirstForms page.now (machines_of l.self.machines));
+  known : IfSome l.known (λ bounds. FirstForms bounds (machines_of l.self.machines));
   measured : IfSome l.measure (λ m. FirstMeasures m (machines_of l.self.machines));
   goes : CheckGoesOn l.initial.self l.self;
 }

@@ -16,5 +16,5 @@ returns-in-Some-clause-measured g c =
     c.keep_measure.ensures
 
 pub returns-in-Some-clause-kept : goal.returns-in-Some-clause-kept
-returns-in-Some-clause-kept g c = λ page forms.
-    forms_kept page c.args.self.now.machines c.execute_measured.new.self.machines c.execute_measured.ensures.kept forms
+returns-in-Some-clause-kept g c = λ bounds forms.
+    forms_kept bounds c.args.self.now.machines c.execute_measured.new.self.machines c.execute_measured.ensures.kept forms

@@ -11,7 +11,7 @@ pub invariant_of-self : goal.invariant_of-self
 invariant_of-self g c = λ runs.
     let before = c.self.inside in
     let running = (subst (λ (f : Fleet). AreRunning f.machines) (sym c.self.view_is) c.requires.running).0 in
-    let forms = subst (λ (f : Fleet). FirstForms c.args.page.now f.machines) (sym c.self.view_is) c.requires.known in
+    let forms = subst (λ (f : Fleet). FirstForms c.args.bounds.now f.machines) (sym c.self.view_is) c.requires.known in
     formed_still c.items_run_on_like_printers.ensures c.args.command (amount c.args.n) c.in-Some.marks before.fleet_mode before.first
     c.form_on.new.self before.others.items running (c.self.invariant running) c.in-Alone.is forms.1 (c.in-Some.ensures.formed forms.0)
 
@@ -22,7 +22,7 @@ returns g c =
     let first = c.form_on.new.self in
     let n = amount c.args.n in
     let running = (subst (λ (f : Fleet). AreRunning f.machines) (sym c.self.view_is) c.requires.running).0 in
-    let forms = subst (λ (f : Fleet). FirstForms c.args.page.now f.machines) (sym c.self.view_is) c.requires.known in
+    let forms = subst (λ (f : Fleet). FirstForms c.args.bounds.now f.machines) (sym c.self.view_is) c.requires.known in
     let runs = c.in-Some.ensures.formed forms.0 in
     record {
       formed = λ yes.
