@@ -385,7 +385,7 @@ module _ (printer : Printer) (page : Page) (bounds : FormBounds) (has : HasBound
   abbrev by_units : ℕ
   by_units = bounds.unit * n.ten_thousandths
 
-  units_are : by_units ≡ unit_ticks page.env.job.units_per_inch n
+  pub units_are : by_units ≡ unit_ticks page.env.job.units_per_inch n
   units_are = ap (λ u. u * n.ten_thousandths) has.bound.unit
 
   -- where a place was found on the page that is looked up, so it is on the page in force
