@@ -19,6 +19,7 @@ ghost use Rattle.pcl_items.specs.declared.pcl.command.Command.TheVariants.{
 };
 ghost use Rattle.pcl_items.specs.Items.{amount};
 ghost use Rattle.page_env.specs.Forms.{FormsBy, HasBounds};
+ghost use Rattle.page_env.specs.Numbers.{IsWithin};
 ghost use Rattle.page_env.specs.Places.{place_between, target_of};
 
 use crate::cell::Cell;
@@ -247,6 +248,23 @@ fn length_of(ticks: u64) -> Length
     Length::of_ticks(ticks as i64)
 }
 
+/// Whether a place is not before a bound.
+#[inline(always)]
+fn begins_behind(low: Length, start: i64) -> bool
+    ensures { IsTrue result → low ≤ℤ start }
+{
+    low.ticks() <= start
+}
+
+/// Whether a stretch does not end behind a bound.
+#[inline(always)]
+fn ends_before(start: i64, length: Length, high: Length) -> bool
+    requires { IsWithin (2 ^ 62) start }
+    ensures { IsTrue result → (start +ℤ length) ≤ℤ high }
+{
+    start + length.ticks() <= high.ticks()
+}
+
 /// Whether a rectangle of this size, which is not negative, lies within an area.
 // So one of its edges is judged on each side, and not both.
 #[inline(always)]
@@ -254,10 +272,10 @@ fn lies_on(area: &Bounds, corner: SheetPlace, width: Length, height: Length) -> 
     ensures { IsTrue result → (area.now.left ≤ℤ corner.x) × (area.now.top ≤ℤ corner.y)
         × ((corner.x +ℤ width) ≤ℤ area.now.right) × ((corner.y +ℤ height) ≤ℤ area.now.bottom) }
 {
-    area.left.ticks() <= corner.x
-        && area.top.ticks() <= corner.y
-        && corner.x + width.ticks() <= area.right.ticks()
-        && corner.y + height.ticks() <= area.bottom.ticks()
+    begins_behind(area.left, corner.x)
+        && begins_behind(area.top, corner.y)
+        && ends_before(corner.x, width, area.right)
+        && ends_before(corner.y, height, area.bottom)
 }
 
 /// `*c#P`, where it goes and the cursor is not at home.
