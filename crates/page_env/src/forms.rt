@@ -2,7 +2,7 @@
 //! looked up once.
 #![tactic(auto)]
 
-ghost use Rattle.std.specs.Prelude.{◌≡◌, ◌≤◌, ◌^◌, ◌*◌, ◌/◌, ◌+ℤ◌, ◌≤ℤ◌, pos};
+ghost use Rattle.std.specs.Prelude.{◌≡◌, ◌≤◌, ◌^◌, ◌+◌, ◌*◌, ◌/◌, ◌+ℤ◌, ◌≤ℤ◌, pos};
 ghost use Rattle.std.specs.Prelude.{IfNone, IfSome, IsTrue};
 ghost use Rattle.tick_length.specs.declared.unit.Unit.TheVariants.{PclUnit};
 ghost use Rattle.tick_length.specs.Unit.{ticks_of};
@@ -259,7 +259,7 @@ fn begins_behind(low: Length, start: i64) -> bool
 /// Whether a stretch does not end behind a bound.
 #[inline(always)]
 fn ends_before(start: i64, length: Length, high: Length) -> bool
-    requires { IsWithin (2 ^ 62) start }
+    requires { IsWithin (2 ^ 61 + 2 ^ 51) start }
     ensures { IsTrue result → (start +ℤ length) ≤ℤ high }
 {
     start + length.ticks() <= high.ticks()
