@@ -13,12 +13,13 @@ use Rattle.device_profile.specs.declared.field.Field.{Field}
 use Rattle.device_profile.specs.declared.field.Field.TheVariants.{Size, Orientation, Vmi, Font, Copies, Sides, Tray}
 use Rattle.device_profile.specs.declared.field.Field.TheVariants.{LineTerm}
 use Rattle.device_profile.specs.declared.geometry.Geometry.{Geometry}
+use Rattle.device_profile.specs.declared.panel.Panel.{Panel}
 use Rattle.device_profile.specs.Printer.{Printer}
 use Rattle.page_env.specs.declared.cell.Cell.{Cell}
 use Rattle.page_env.specs.declared.cell.Cell.TheVariants.{Known}
 use Rattle.page_env.specs.declared.finding.Finding.TheVariants.{BadValue, EmptyRectangle, Inexact, NoFont, NotPrintable}
 use Rattle.page_env.specs.declared.finding.Finding.TheVariants.{OffPage}
-use Rattle.page_env.specs.declared.forms.FormBounds.{FormBounds}
+use Rattle.page_env.specs.declared.lookup.FormBounds.{FormBounds}
 use Rattle.page_env.specs.declared.mark.Bounds.{Bounds}
 use Rattle.page_env.specs.declared.mark.Fill.{Fill}
 use Rattle.page_env.specs.declared.page.JobSettings.{JobSettings}
@@ -55,7 +56,7 @@ placed low high z x e = by (is_between low high z) refl e
     by true is e = record { between = is; is = ap (λ o. unwrap_or o z) e }
     by false is e = absurd cc
 
-no_reads : (b : Bool) → cond b [] [] ≡ []
+no_reads : (b : Bool) → cond {A = List Field} b [] [] ≡ []
 no_reads true = refl
 no_reads false = refl
 
@@ -265,7 +266,7 @@ module _ (printer : Printer) (page : Page) (g : Geometry) (has : KnowsPage print
       times (ticks_in FortyEighthInch vmi) n.ten_thousandths ≡ Some by →
       place_between (pos 0) g.logical_height (target_of n.sign (first_line job.top_margin vmi) here (pos by)) ≡ Some y →
       FormGoes printer commands.Row n 0 page (record page { cursor = record page.cursor { y = Some y } })
-  unfolding page_reads, page_and_line_reads
+  unfolding page_reads page_and_line_reads
   rows_by vmi by here y is stands whole found = record {
     form = Rows;
     is = refl;

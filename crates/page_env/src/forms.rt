@@ -24,11 +24,12 @@ ghost use Rattle.page_env.specs.Places.{place_between, target_of};
 
 use crate::cell::Cell;
 use crate::cursor::Coordinate;
+use crate::lookup::FormBounds;
 use crate::mark::Bounds;
 use crate::number::is_negative;
 use crate::page::Page;
 use crate::places::{
-    Origin, SheetPlace, first_line, known_geometry, length_between, on_sheet, origin_on, target,
+    SheetPlace, first_line, known_geometry, length_between, on_sheet, origin_on, target,
     target_down, ticks_in, times,
 };
 use crate::rectangles::{fill_of, is_empty};
@@ -37,23 +38,6 @@ use device_profile::Profile;
 use pcl_items::{Command, Number, Sign};
 use std::alloc::Allocator;
 use tick_length::{Length, Unit, UnitsPerInch};
-
-/// What moves and rectangles take from the page in force and from the settings.
-#[derive(Clone, Copy)]
-pub struct FormBounds {
-    /// The size of the logical page.
-    pub width: Length,
-    pub height: Length,
-    /// Where it begins on the sheet.
-    pub origin: Origin,
-    /// The printable area.
-    pub area: Bounds,
-    /// The top margin.
-    pub top: Length,
-    /// How many ticks the ten-thousandth of a PCL unit has.
-    pub unit: u64,
-    pub ghost small: { unit ≤ 2 ^ 18 },
-}
 
 /// How many ticks the ten-thousandth of a PCL unit has.
 fn ticks_each(units: UnitsPerInch) -> u64
@@ -272,10 +256,16 @@ fn lies_on(area: &Bounds, corner: SheetPlace, width: Length, height: Length) -> 
     ensures { IsTrue result → (area.now.left ≤ℤ corner.x) × (area.now.top ≤ℤ corner.y)
         × ((corner.x +ℤ width) ≤ℤ area.now.right) × ((corner.y +ℤ height) ≤ℤ area.now.bottom) }
 {
-    begins_behind(area.left, corner.x)
-        && begins_behind(area.top, corner.y)
-        && ends_before(corner.x, width, area.right)
-        && ends_before(corner.y, height, area.bottom)
+    if !begins_behind(area.left, corner.x) {
+        return false;
+    }
+    if !begins_behind(area.top, corner.y) {
+        return false;
+    }
+    if !ends_before(corner.x, width, area.right) {
+        return false;
+    }
+    ends_before(corner.y, height, area.bottom)
 }
 
 /// `*c#P`, where it goes and the cursor is not at home.

@@ -12,7 +12,7 @@ use Rattle.pcl_items.specs.Items.{Entry, Parameterized}
 use Rattle.pcl_items.specs.Modes.{follows}
 use Rattle.page_env.specs.declared.page.Page.{Page}
 use Rattle.page_env.specs.Effect.{Goes, effect_of}
-use Rattle.page_env.specs.declared.forms.FormBounds.{FormBounds}
+use Rattle.page_env.specs.declared.lookup.FormBounds.{FormBounds}
 use Rattle.page_env.specs.Forms.{Across, AcrossDecipoints, Columns, Down, DownDecipoints, Filled, Form, FormGoes, FormsBy, Height}
 use Rattle.page_env.specs.Forms.{Rows, Width, command_of}
 use Rattle.page_env.specs.Mark.{Shape}

@@ -5,7 +5,7 @@ use Rattle.pcl_items.specs.Escapes.Value.{Amount}
 use Rattle.pcl_items.specs.declared.item.Mode.TheVariants.{Pcl}
 use Rattle.pcl_items.specs.declared.pcl.command.Command.{Command}
 use Rattle.pcl_items.specs.Items.{Parameterized}
-use Rattle.page_env.specs.declared.forms.FormBounds.{FormBounds}
+use Rattle.page_env.specs.declared.lookup.FormBounds.{FormBounds}
 use Rattle.page_env.specs.Forms.{Form, HasBounds, LeavesRest, command_of}
 use Rattle.page_env.specs.Mark.{Shape}
 use Rattle.page_env.specs.Settings.{state_at}

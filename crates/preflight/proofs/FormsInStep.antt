@@ -6,7 +6,7 @@ use Rattle.pcl_items.specs.declared.pcl.command.Command.{Command}
 use Rattle.pcl_items.specs.Escapes.Value.{Amount}
 use Rattle.pcl_items.specs.Items.{Entry, Parameterized}
 use Rattle.page_env.specs.declared.page.Page.{Page}
-use Rattle.page_env.specs.declared.forms.FormBounds.{FormBounds}
+use Rattle.page_env.specs.declared.lookup.FormBounds.{FormBounds}
 use Rattle.page_env.specs.Forms.{Across, AcrossDecipoints, Columns, Down, DownDecipoints, Filled, Form, Height, LeavesRest, Rows}
 use Rattle.page_env.specs.Forms.{Width, command_of}
 use Rattle.page_env.specs.Likeness.{command_asks_alike}

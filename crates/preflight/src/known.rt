@@ -2,7 +2,7 @@
 //! lines of text on a page that is looked up once.
 
 ghost use Rattle.std.specs.Prelude.{◌≡◌, ◌≤◌, length, take, IfSome, IsFalse, IsTrue};
-ghost use Rattle.page_env.specs.declared.forms.FormBounds.{FormBounds};
+ghost use Rattle.page_env.specs.declared.lookup.FormBounds.{FormBounds};
 ghost use Rattle.pcl_items.specs.Items.{Parameterized, amount, simple_view};
 ghost use Rattle.pcl_items.specs.Lines.{AreLines};
 ghost use Rattle.preflight.specs.Carriers.FormsInStep.{FirstForms, FirstKeeps, FirstMeasures};

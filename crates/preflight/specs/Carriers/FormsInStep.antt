@@ -1,6 +1,6 @@
 -- Moves and rectangles on the machines of a fleet, which go in step.
 use Rattle.std.specs.Prelude.{◌≡◌, None, List, [], ◌∷◌}
-use Rattle.page_env.specs.declared.forms.FormBounds.{FormBounds}
+use Rattle.page_env.specs.declared.lookup.FormBounds.{FormBounds}
 use Rattle.page_env.specs.Forms.{LeavesRest}
 use Rattle.page_env.specs.TextMeasure.{TextMeasure}
 use Rattle.page_machine.specs.Forms.{FormsOn}

@@ -1,6 +1,6 @@
 use Rattle.std.proofs.Common.{Option, sym, ap, subst}
 use Rattle.std.specs.Prelude.{IfSome}
-use Rattle.page_env.specs.declared.forms.FormBounds.{FormBounds}
+use Rattle.page_env.specs.declared.lookup.FormBounds.{FormBounds}
 use Rattle.pcl_items.specs.Items.{Entry, simple_view}
 use Rattle.preflight.specs.Carriers.FormsInStep.{FirstForms}
 use Rattle.preflight.specs.Carriers.Lockstep.{Execute, GoesAlike, machines_of}
