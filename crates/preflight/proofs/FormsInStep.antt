@@ -1,5 +1,5 @@
 -- Commands of forms that the machines of a fleet execute in step.
-use Rattle.std.specs.Prelude.{IfSome}
+use Rattle.std.specs.Prelude.{IfSome, is_none}
 use Rattle.std.proofs.Common.{◌≡◌, ◌⊎◌, inl, inr, ℕ, true, false, Option, None, Some, List, [], ◌∷◌, map, refl, sym, ap, subst, ◌∙◌}
 use Rattle.device_profile.specs.Printer.{Printer}
 use Rattle.pcl_items.specs.declared.pcl.command.Command.{Command}
@@ -105,6 +105,14 @@ measures_kept measure (m ∷ ms) (m' ∷ ms') kept measures =
       no_definition = measures.no_definition;
       mode = measures.mode;
     }
+
+-- where none is kept, each that is kept is right
+pub none_of : {R : Type 0} (o : Option R) → is_none o ≡ true → o ≡ None
+none_of None e = refl
+none_of (Some r) e = absurd cc
+
+pub none_kept : {R : Type 0} (P : R → Type 0) (o : Option R) → o ≡ None → IfSome o P
+none_kept P o e = subst (λ known. IfSome known P) (sym e) tt
 
 -- so they do where there may be none
 pub some_kept : {R : Type 0} (P Q : R → Type 0) (known : Option R) → ((r : R) → P r → Q r) → IfSome known P → IfSome known Q

@@ -1,7 +1,7 @@
 //! What the machines of a fleet execute by what is known of the first one: moves, rectangles and
 //! lines of text on a page that is looked up once.
 
-ghost use Rattle.std.specs.Prelude.{◌≡◌, ◌≤◌, length, take, IfSome, IsFalse, IsTrue};
+ghost use Rattle.std.specs.Prelude.{◌≡◌, ◌≤◌, length, take, None, IfSome, IsFalse, IsTrue};
 ghost use Rattle.page_env.specs.declared.lookup.FormBounds.{FormBounds};
 ghost use Rattle.pcl_items.specs.Items.{Parameterized, amount, simple_view};
 ghost use Rattle.pcl_items.specs.Lines.{AreLines};
@@ -54,8 +54,8 @@ impl<'p, A: Allocator + Copy, P: Allocator> Lockstep<'p, A, P> {
         if self.form(read.item, known) {
             return true;
         }
-        *known = None;
-        *measure = None;
+        forget_bounds(known);
+        forget_measure(measure);
         self.step_read(read, state, failing_item)
     }
 
@@ -96,6 +96,15 @@ impl<'p, A: Allocator + Copy, P: Allocator> Lockstep<'p, A, P> {
         if known.is_some() {
             return;
         }
+        self.look_up(known);
+    }
+
+    /// Looks it up.
+    // A call of its own, so that what is kept lies in memory and goes through no registers.
+    #[inline(never)]
+    fn look_up(&self, known: &mut Option<FormBounds>)
+        ensures { IfSome known.new (λ bounds. FirstForms bounds (machines_of self.now)) }
+    {
         *known = self.form_bounds();
     }
 
@@ -229,4 +238,28 @@ impl<'p, A: Allocator + Copy, P: Allocator> Lockstep<'p, A, P> {
         self.counts.add_marks(lines.glyphs);
         lines.count
     }
+}
+
+// Where nothing is kept, as mostly, these two write nothing.
+
+/// Keeps nothing of what moves and rectangles take.
+#[inline(always)]
+pub fn forget_bounds(known: &mut Option<FormBounds>)
+    ensures { known.new ≡ None }
+{
+    if known.is_none() {
+        return;
+    }
+    *known = None;
+}
+
+/// Keeps nothing of what lines of text take.
+#[inline(always)]
+pub fn forget_measure<P: Allocator>(measure: &mut Option<TextMeasure<'_, P>>)
+    ensures { measure.new ≡ None }
+{
+    if measure.is_none() {
+        return;
+    }
+    *measure = None;
 }

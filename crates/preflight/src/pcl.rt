@@ -12,6 +12,7 @@ ghost use Rattle.preflight.specs.Carriers.Loops.{ExecutesOn, MayExecute};
 ghost use Rattle.preflight.specs.Carriers.TextInStep.{PrintInStep};
 
 use crate::checking::Checking;
+use crate::known::{forget_bounds, forget_measure};
 use crate::lockstep::Lockstep;
 use page_env::{FormBounds, TextMeasure};
 use page_machine::watched_runs_are_alike;
@@ -43,8 +44,8 @@ impl<A: Allocator + Copy, P: Allocator> Checking<'_, A, P> {
                     return false;
                 }
             } else if let Some(read) = self.lexer.next_line_end() {
-                known = None;
-                measure = None;
+                forget_bounds(&mut known);
+                forget_measure(&mut measure);
                 let (state, failing_item) = (&mut self.state, &mut self.failing_item);
                 if !self.machines.step_line_end(read, state, failing_item) {
                     return false;
@@ -113,7 +114,7 @@ fn execute_ahead<'p, A: Allocator + Copy, P: Allocator>(
     match known {
         Some(_) => machines.execute_on_page(bytes, measure),
         None => {
-            *measure = None;
+            forget_measure(measure);
             machines.execute_text(bytes)
         }
     }

@@ -3,6 +3,7 @@ use Rattle.pcl_lexer.specs.Lexing.Meaning.{IsNext, answer_of_end}
 use Rattle.pcl_lexer.specs.Modes.{mode_of}
 use Rattle.preflight.specs.Carriers.Lockstep.{AreIn, machines_of}
 use Rattle.preflight.proofs.Answered.{all_admit_next, further_by_text, text_through}
+use Rattle.preflight.proofs.FormsInStep.{none_kept}
 use Rattle.preflight.proofs.Loops.{answered, goes_none, goes_open, item_behind, on_open}
 use Rattle.preflight.proofs.checking.Checking.execute_pcl.Goals as goal
 
@@ -56,8 +57,8 @@ loop-read-preserved-else-not-step_line_end g c =
     c.in-Some-next_line_end.ensures.line_end in
     let step = c.step_line_end.ensures in
     record {
-      known = tt;
-      measured = tt;
+      known = none_kept _ _ c.forget_bounds.ensures;
+      measured = none_kept _ _ c.forget_measure.ensures;
       goes =
           goes_open _ _ _ c.if-not-step_line_end.false
           (item_behind _ _ _ _ c.one_reading.ensures c.watched_runs_are_alike.ensures _ _ _ refl c.loop-read.invariant.goes next

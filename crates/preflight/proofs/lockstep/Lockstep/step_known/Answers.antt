@@ -3,7 +3,7 @@ use Rattle.pcl_items.specs.Items.{simple_view}
 use Rattle.preflight.specs.CheckState.{StandsBy, is_open}
 use Rattle.preflight.specs.Carriers.Lockstep.{AllAdmit, AreRunning, Execute, Fleet, GoesInStep, counts_of, machines_of}
 use Rattle.preflight.proofs.CheckStates.{open_by}
-use Rattle.preflight.proofs.FormsInStep.{measure_kept}
+use Rattle.preflight.proofs.FormsInStep.{measure_kept, none_kept}
 use Rattle.preflight.proofs.lockstep.Lockstep.step_known.Goals as goal
 
 -- ---- a command of forms
@@ -42,7 +42,7 @@ returns-clause-came g c =
     (c.form.ensures.same c.if-form.false) c.step_read.ensures.came
 
 pub returns-clause-known : goal.returns-clause-known
-returns-clause-known g c = λ yes. tt
+returns-clause-known g c = λ yes. none_kept _ _ c.forget_bounds.ensures
 
 pub returns-clause-measured : goal.returns-clause-measured
-returns-clause-measured g c = λ yes. tt
+returns-clause-measured g c = λ yes. none_kept _ _ c.forget_measure.ensures
