@@ -1,4 +1,4 @@
-use Rattle.std.proofs.Common.{◌≡◌, ◌∷◌, ℕ, List, map, take, ap, refl, sym, subst, ◌∙◌}
+use Rattle.std.proofs.Common.{◌≡◌, ◌∷◌, ℕ, List, map, take, refl, sym, subst, ◌∙◌}
 use Rattle.pcl_items.specs.declared.item.Mode.TheVariants.{Pcl}
 use Rattle.page_env.proofs.TextRooms.{measured_lines_go}
 use Rattle.page_env.specs.declared.text_lines.TextAppearance.{TextAppearance}
