@@ -1,6 +1,5 @@
-use Rattle.std.proofs.Common.{◌≡◌, ◌∙◌, pos, Some, sym, rules}
+use Rattle.std.proofs.Common.{◌∙◌, sym}
 use Rattle.pcl_items.specs.Items.{amount}
-use Rattle.page_env.specs.Places.{place_between, target_of}
 use Rattle.page_env.proofs.FormFacts.{across_goes}
 use Rattle.page_env.proofs.forms.move_x_on.Goals as goal
 
