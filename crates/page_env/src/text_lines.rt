@@ -165,7 +165,7 @@ fn page_and_request<'p, A: Allocator>(
 }
 
 /// The printable area of a page.
-fn area_of(geometry: &Geometry) -> Bounds
+pub(crate) fn area_of(geometry: &Geometry) -> Bounds
     ensures { result ≡ area_of geometry.now }
 {
     Bounds {
@@ -197,20 +197,18 @@ fn text_bounds(page: &Page, geometry: &Geometry, ends_lines: bool) -> TextBounds
     }
 }
 
-/// What lines of text take from the settings, and where they begin, where it is known whatever the
-/// panel, a face answers the font request, the cursor is not at home and no raster is started.
+/// What lines of text take from the settings, where it is known whatever the panel, a face answers
+/// the font request and no raster is started.
 #[inline(always)]
-pub fn text_measure<'p, A: Allocator>(
+pub fn line_measure<'p, A: Allocator>(
     profile: &'p Profile<A>,
     page: &Page,
-) -> Option<(TextMeasure<'p, A>, TextPlace)>
-    ensures { IfSome result (λ known. HasMeasure profile.now page.now known.0
-        × StandsAt page.now known.1) }
+) -> Option<TextMeasure<'p, A>>
+    ensures { IfSome result (λ measure. HasMeasure profile.now page.now measure) }
 {
     if page.raster.is_some() {
         return None;
     }
-    let y = page.cursor.y?;
     let Some((geometry, origin, request)) = page_and_request(profile, page) else {
         return None;
     };
@@ -228,11 +226,33 @@ pub fn text_measure<'p, A: Allocator>(
         termination: ends.termination,
     };
     let bounds = text_bounds(page, geometry, ends.are_known);
-    let from = TextPlace {
+    Some(TextMeasure { look, face, bounds })
+}
+
+/// Where lines of text begin, unless the cursor is at home.
+#[inline(always)]
+pub fn text_place(page: &Page) -> Option<TextPlace>
+    ensures { IfSome result (λ place. StandsAt page.now place) }
+{
+    let y = page.cursor.y?;
+    Some(TextPlace {
         x: page.cursor.x,
         y,
-    };
-    Some((TextMeasure { look, face, bounds }, from))
+    })
+}
+
+/// What lines of text take from the settings, and where they begin, where both are known.
+#[inline(always)]
+pub fn text_measure<'p, A: Allocator>(
+    profile: &'p Profile<A>,
+    page: &Page,
+) -> Option<(TextMeasure<'p, A>, TextPlace)>
+    ensures { IfSome result (λ known. HasMeasure profile.now page.now known.0
+        × StandsAt page.now known.1) }
+{
+    let place = text_place(page)?;
+    let measure = line_measure(profile, page)?;
+    Some((measure, place))
 }
 
 /// Whether characters look the same, and lead to the same places.

@@ -22,6 +22,12 @@ pub record IsMeasuredAt (machine : MachineState) (m : TextMeasure) (from : TextP
   pub mode : machine.mode ≡ Pcl
   pub running : machine.stopped ≡ false
 
+-- what lines of text take from the machine, which may go on in mode PCL; no definition is open
+pub record MeasuresLines (m : TextMeasure) (machine : MachineState) : Type 0 where
+  pub measure : HasMeasure machine.printer machine.page m
+  pub no_definition : machine.macros.definition ≡ None
+  pub mode : machine.mode ≡ Pcl
+
 -- the machine behind a byte that goes
 abbrev pub machine_behind : TextAppearance → TextPlace → ℕ → MachineState → MachineState
 machine_behind look place code machine = record machine { page = page_behind look place code machine.page }

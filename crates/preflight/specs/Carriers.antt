@@ -5,6 +5,7 @@ pub mod Lockstep
 pub mod FleetMode
 pub mod TextInStep
 pub mod PairsInStep
+pub mod FormsInStep
 pub mod Checking
 pub mod Loops
 pub mod Rooms
