@@ -6,5 +6,6 @@ pub mod FleetMode
 pub mod TextInStep
 pub mod PairsInStep
 pub mod Checking
+pub mod Detached
 pub mod Loops
 pub mod Rooms
