@@ -19,11 +19,11 @@ draws_by profile name job text page selection status drawn given_before given_af
       a = a;
       left =
           subst
-              (λ (wanted : Selection). LeavesPicture status
-              (IsNamedBy given_before given_after (IsNamed (Some profile) given_before given_after)) [] wanted name a) pages_are
-              (subst
-              (λ (bytes : List ℕ). LeavesPicture status
-              (IsNamedBy given_before given_after (IsNamed (Some bytes) given_before given_after)) [] selection name a) text_is left);
+          (λ (wanted : Selection). LeavesPicture status
+          (IsNamedBy given_before given_after (IsNamed (Some profile) given_before given_after)) [] wanted name a) pages_are
+          (subst
+          (λ (bytes : List ℕ). LeavesPicture status
+          (IsNamedBy given_before given_after (IsNamed (Some bytes) given_before given_after)) [] selection name a) text_is left);
       first_is = first;
       second_is = second;
       unwritten = unwritten;
