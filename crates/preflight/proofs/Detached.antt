@@ -86,8 +86,9 @@ module _ (fleet_mode : FleetMode) (first : MachineState) (others : List MachineS
       let each : attached_each printers (map detached others) ≡ others =
       ap (λ (ps : List Printer). attached_each ps (map detached others)) own ∙ all_back others in
       let long : length (map detached others) ≡ length printers =
-      length-map others detached ∙ sym (length-map others (λ machine. machine.printer)) ∙ ap (λ (ps : List Printer). length ps) (sym own) in
-      (
+      length-map others detached
+      ∙ sym (length-map others (λ machine. machine.printer))
+      ∙ ap (λ (ps : List Printer). length ps) (sym own) in (
         (
           long,
           subst (λ (m : MachineState). IsFormed fleet_mode m (attached_each printers (map detached others))) (sym one)
