@@ -1,5 +1,6 @@
 -- What the calls on fleets leave.
-use Rattle.std.specs.Prelude.{◌≡◌, ◌⊎◌, ◌+◌, ℕ, List, [], ◌∷◌, ◌++◌, length, map, Option, None, Some, Result, IfOk, IfErr}
+use Rattle.std.specs.Prelude.{◌≡◌, ◌⊎◌, ◌+◌, ℕ, List, [], ◌∷◌, ◌++◌, length, map, Option, None, Some}
+use Rattle.std.specs.Prelude.{Result, IfOk, IfErr}
 use Rattle.device_profile.specs.Name.{printer_name}
 use Rattle.device_profile.specs.Printer.{Printer}
 use Rattle.pclcheck_c.specs.declared.fleet.Fleet.{Fleet}

@@ -1,5 +1,6 @@
 -- What the calls on sessions leave.
-use Rattle.std.specs.Prelude.{◌≡◌, ◌↔◌, ℕ, List, [], ◌++◌, Option, None, Some, Result, Ok, Err, IfOk, IfErr, if◌then◌else◌}
+use Rattle.std.specs.Prelude.{◌≡◌, ◌↔◌, ℕ, List, [], ◌++◌, Option, None, Some, Result, Ok, Err, IfOk, IfErr}
+use Rattle.std.specs.Prelude.{if◌then◌else◌}
 use Rattle.device_profile.specs.Printer.{Printer}
 use Rattle.preflight.specs.declared.failing_item.Judgement.{Judgement}
 use Rattle.preflight.specs.declared.kept_check.KeptCheck.{KeptCheck}

@@ -281,7 +281,7 @@ pub extern "C" fn pclcheck_session_feed(
 
 /// Ends the job, and tells the verdict on what was fed, whole. A call behind that tells it again.
 ///
-/// The answer is one of `pclcheck_check`.
+/// The answer is `DONE`, `MEMORY`, `ITEMS` or `LONG`.
 #[unsafe(no_mangle)]
 pub extern "C" fn pclcheck_session_end(
     alloc: Global,
@@ -307,7 +307,7 @@ pub extern "C" fn pclcheck_session_end(
 /// Ends the job as `pclcheck_session_end` does, and puts the sentence on it with its line end,
 /// which begins with this name of the job. A call behind that, with more room, puts it again.
 ///
-/// The answer is one of `pclcheck_tell`.
+/// The answer is one of `pclcheck_session_end`, or `ROOM`.
 #[unsafe(no_mangle)]
 pub extern "C" fn pclcheck_session_tell(
     alloc: Global,

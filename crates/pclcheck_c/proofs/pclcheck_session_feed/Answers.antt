@@ -11,5 +11,6 @@ pub returns-clause-fed : goal.returns-clause-fed
 returns-clause-fed c =
     let call = c.feed-number in
     on_held c.args.fleet.now.held c.args.session.now.held c.put.new.self.held c.take-held.result.value _ c.take-going.result.value _
-    call.new.self (Feeds c.args.piece.now call.result) c.take-held.ensures.taken c.take-going.ensures.taken c.put.ensures c.deref.ensures c.deref_mut.ensures.value
+    call.new.self (Feeds c.args.piece.now call.result)
+    c.take-held.ensures.taken c.take-going.ensures.taken c.put.ensures c.deref.ensures c.deref_mut.ensures.value
     call.ensures
