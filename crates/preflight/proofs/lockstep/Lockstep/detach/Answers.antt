@@ -4,7 +4,7 @@ use Rattle.preflight.specs.Carriers.Detached.{AreLeftOf}
 use Rattle.preflight.specs.Carriers.FleetMode.{IsFormed, fleet_of}
 use Rattle.preflight.specs.Carriers.Lockstep.{AreRunning, Fleet}
 use Rattle.preflight.proofs.Detached.{left_of}
-use Rattle.preflight.proofs.detached.Lockstep.detach.Goals as goal
+use Rattle.preflight.proofs.lockstep.Lockstep.detach.Goals as goal
 
 pub returns : goal.returns
 returns g c =

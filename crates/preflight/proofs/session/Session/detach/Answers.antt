@@ -5,7 +5,7 @@ use Rattle.preflight.specs.declared.failing_item.FailingItem.{FailingItem}
 use Rattle.preflight.specs.Carriers.Detached.{IsLeftOf, IsUnderWay, session_with}
 use Rattle.preflight.specs.Session.{SessionState}
 use Rattle.preflight.proofs.Detached.{session_left}
-use Rattle.preflight.proofs.kept_check.Session.detach.Goals as goal
+use Rattle.preflight.proofs.session.Session.detach.Goals as goal
 
 pub detach-requires : goal.detach-requires
 detach-requires g c = (c.self.invariant (ap (λ (session : SessionState). session.state) c.self.view_is ∙ c.requires)).2

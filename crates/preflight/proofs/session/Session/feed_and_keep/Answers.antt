@@ -1,5 +1,5 @@
 use Rattle.std.proofs.Common.{◌++◌}
-use Rattle.preflight.proofs.kept_check.Session.feed_and_keep.Goals as goal
+use Rattle.preflight.proofs.session.Session.feed_and_keep.Goals as goal
 
 pub returns-in-Ok : goal.returns-in-Ok
 returns-in-Ok g c = λ fleet bytes checked.

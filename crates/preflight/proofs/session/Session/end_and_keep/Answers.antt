@@ -1,4 +1,4 @@
-use Rattle.preflight.proofs.kept_check.Session.end_and_keep.Goals as goal
+use Rattle.preflight.proofs.session.Session.end_and_keep.Goals as goal
 
 pub returns-in-Ok-clause-ended : goal.returns-in-Ok-clause-ended
 returns-in-Ok-clause-ended g c = λ fleet bytes checked.

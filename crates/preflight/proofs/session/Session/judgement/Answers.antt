@@ -3,7 +3,7 @@ use Rattle.preflight.specs.Judgement.{IsJudgementOn}
 use Rattle.preflight.specs.Session.{SessionState}
 use Rattle.preflight.specs.Where.{IsOnPage, page_with}
 use Rattle.preflight.proofs.Spots.{cursor_right, font_right}
-use Rattle.preflight.proofs.kept_check.Session.judgement.Goals as goal
+use Rattle.preflight.proofs.session.Session.judgement.Goals as goal
 
 pub returns : goal.returns
 returns g c = λ fleet job said.

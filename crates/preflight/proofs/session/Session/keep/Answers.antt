@@ -1,7 +1,7 @@
 use Rattle.std.proofs.Common.{◌∙◌, ap, sym}
 use Rattle.preflight.specs.Session.{SessionState}
 use Rattle.preflight.proofs.Keeping.{answers_so}
-use Rattle.preflight.proofs.kept_check.Session.keep.Goals as goal
+use Rattle.preflight.proofs.session.Session.keep.Goals as goal
 
 pub keep_open-requires : goal.keep_open-requires
 keep_open-requires g c = sym (ap (λ (session : SessionState). session.state) c.self.view_is) ∙ c.in-Open.is
