@@ -13,3 +13,6 @@ pub returns-clause-items : goal.returns-clause-items
 returns-clause-items c = λ failed.
     passes_known _ _ c.args.fleet.now c.args.job.now (c.check_job_within.ensures.items failed)
     (ap (λ inner. Some inner.now) c.new-source.ensures.inner)
+
+pub returns-clause-within : goal.returns-clause-within
+returns-clause-within c = c.check_job_within.ensures.within
