@@ -163,9 +163,10 @@ impl<'p, A: Allocator + Copy, P: Allocator> Session<'p, A, P> {
         requires { self.state ≡ states.Open }
         ensures { IfOk result (IsLeftOf self.entry) }
     {
-        let machines = self.checking.machines.detach(alloc)?;
+        let checking = self.checking;
+        let machines = checking.machines.detach(alloc)?;
         Ok(DetachedSession {
-            lexer: self.checking.lexer,
+            lexer: checking.lexer,
             machines,
             total: self.total,
         })

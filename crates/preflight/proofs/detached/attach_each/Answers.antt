@@ -4,7 +4,7 @@ use Rattle.device_profile.specs.Printer.{Printer}
 use Rattle.page_machine.specs.Detached.{DetachedState}
 use Rattle.page_machine.specs.MachineState.{MachineState}
 use Rattle.preflight.specs.Carriers.Detached.{attached_each}
-use Rattle.preflight.proofs.Detached.{one_attached}
+use Rattle.preflight.proofs.Attaching.{one_attached}
 use Rattle.preflight.proofs.detached.attach_each.Goals as goal
 
 pub loop-profile-init : goal.loop-profile-init

@@ -2,7 +2,7 @@ use Rattle.std.proofs.Common.{◌≡◌, ◌∙◌, List, [], ◌++◌, append-n
 use Rattle.std.proofs.lemmas.List.{nil_from_length}
 use Rattle.page_machine.specs.Detached.{DetachedState, detached}
 use Rattle.page_machine.specs.MachineState.{MachineState}
-use Rattle.preflight.proofs.Detached.{one_left}
+use Rattle.preflight.proofs.Attaching.{one_left}
 use Rattle.preflight.proofs.detached.detach_each.Goals as goal
 
 pub loop-machine-init : goal.loop-machine-init

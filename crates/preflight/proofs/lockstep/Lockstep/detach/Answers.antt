@@ -3,7 +3,7 @@ use Rattle.page_machine.specs.Detached.{DetachedState, detached}
 use Rattle.preflight.specs.Carriers.Detached.{AreLeftOf}
 use Rattle.preflight.specs.Carriers.FleetMode.{IsFormed, fleet_of}
 use Rattle.preflight.specs.Carriers.Lockstep.{AreRunning, Fleet}
-use Rattle.preflight.proofs.Detached.{left_of}
+use Rattle.preflight.proofs.Attaching.{left_of}
 use Rattle.preflight.proofs.lockstep.Lockstep.detach.Goals as goal
 
 pub returns : goal.returns

@@ -4,7 +4,7 @@ use Rattle.preflight.specs.declared.check_state.CheckState.TheVariants.{Open}
 use Rattle.preflight.specs.declared.failing_item.FailingItem.{FailingItem}
 use Rattle.preflight.specs.Carriers.Detached.{IsLeftOf, IsUnderWay, session_with}
 use Rattle.preflight.specs.Session.{SessionState}
-use Rattle.preflight.proofs.Detached.{session_left}
+use Rattle.preflight.proofs.Attaching.{session_left}
 use Rattle.preflight.proofs.session.Session.detach.Goals as goal
 
 pub detach-requires : goal.detach-requires
