@@ -4,8 +4,9 @@
     python3 crosscheck/library.py PROGRAM COUNT SEED
 
 The header has to be C and C++, and the shared library to have the names of its calls alone. COUNT
-random jobs and their fleets, and each example, go through each call: the numbers and the bytes of
-each text have to be those of the program's commands, and a room has to be as long as the call said.
+random jobs and their fleets, and each example, go through each call, whole and in pieces: the
+numbers and the bytes of each text have to be those of the program's commands, and a room has to be
+as long as the call said.
 Of every tenth job and of the examples, where they are small, rooms are tried that are too short or
 too long, each request for memory is refused in turn, and eight threads make the calls side by side:
 as it is, and with the sanitizers of the compiler and valgrind, where there are some.
@@ -36,7 +37,7 @@ SECONDS = 600
 TRIED_EACH = 10
 # What is tried takes a run for each request for memory, so jobs of more bytes are not.
 MOST_TRIED = 800
-DONE, REFUSED, NO_PRINTER, NOT_ALLOWED, NO_FIELD, NO_PAGE, UNKNOWN = 0, 6, 4, 7, 8, 9, 10
+DONE, REFUSED, NO_PRINTER, NOT_ALLOWED, NO_FIELD, NO_PAGE, UNKNOWN, ITEMS = 0, 6, 4, 7, 8, 9, 10, 11
 CAUSES = ("", "Version", "Unknown", "Repeated", "Range", "Missing", "NoGeometry")
 # The sanitizers see the callers alone, and what the library asks C for; valgrind sees all.
 VALGRIND = ("valgrind", "-q", "--error-exitcode=9")
@@ -189,6 +190,9 @@ def texts_due(program: Program) -> Dict[str, Tuple[int, Optional[Tuple[int, ...]
            "tell-first": (DONE, verdict_in(alone[0]), each[0]),
            "tell-last": (DONE, verdict_in(alone[-1]), each[-1]),
            "tell-none": (NO_PRINTER, None, b""), "pin-nothing": (NO_FIELD, None, b"")}
+    due.update(dict.fromkeys(("pieces-1", "pieces-7", "pieces-4096"), due["tell"]))
+    told = program.run("check", "--format", "words", "--most-items", "10", "-p", first, "job")
+    due["limit-10"] = (ITEMS, None, b"") if told.status == 3 else (DONE, None, told.output)
     for name, words in (("list", ()), ("notes", (first,)), ("pages", (first,))):
         output = program.run(name, "job", *words).output
         due[name] = (DONE, verdict_in(last_line(output)), output)

@@ -145,6 +145,73 @@ static uint32_t tell_none(struct subject *subject, uint8_t *text, size_t room, s
     return tell_of(subject, subject->printers + 1, text, room, needed);
 }
 
+/* Feeds the job in pieces of this length. Pieces behind the verdict change nothing. */
+static void feed_pieces(struct subject *subject, struct pclcheck_session *session, size_t length)
+{
+    size_t at = 0;
+
+    do {
+        size_t rest = subject->job.length - at;
+        size_t piece = rest < length ? rest : length;
+        pclcheck_session_feed(&subject->fleet, session, subject->job.bytes + at, piece);
+        at += piece;
+    } while (at < subject->job.length);
+}
+
+static uint32_t tell_pieces(struct subject *subject, size_t length, uint8_t *text, size_t room,
+                            size_t *needed)
+{
+    struct pclcheck_session session = {0};
+    struct pclcheck_verdict verdict = subject->verdict;
+    uint32_t answer = pclcheck_session_new(&subject->fleet, 0, &session), ended;
+
+    if (answer != PCLCHECK_DONE)
+        return answer;
+    feed_pieces(subject, &session, length);
+    ended = pclcheck_session_end(&subject->fleet, &session, &verdict);
+    answer = pclcheck_session_tell(&subject->fleet, &session, NAME, sizeof NAME,
+                                   &subject->verdict, text, room, needed);
+    if (answer == PCLCHECK_DONE
+        && (ended != PCLCHECK_DONE || memcmp(&verdict, &subject->verdict, sizeof verdict) != 0))
+        answer = PCLCHECK_STOPPED;
+    pclcheck_session_free(&session);
+    return answer;
+}
+
+static uint32_t tell_bytes(struct subject *subject, uint8_t *text, size_t room, size_t *needed)
+{
+    return tell_pieces(subject, 1, text, room, needed);
+}
+
+static uint32_t tell_sevens(struct subject *subject, uint8_t *text, size_t room, size_t *needed)
+{
+    return tell_pieces(subject, 7, text, room, needed);
+}
+
+static uint32_t tell_blocks(struct subject *subject, uint8_t *text, size_t room, size_t *needed)
+{
+    return tell_pieces(subject, 4096, text, room, needed);
+}
+
+/* On the first printer alone, where macros may carry out so few items. */
+static uint32_t tell_limited(struct subject *subject, uint8_t *text, size_t room, size_t *needed)
+{
+    struct pclcheck_fleet fleet = {0};
+    struct pclcheck_refusal refusal;
+    uint32_t answer = pclcheck_fleet_new(&fleet);
+
+    if (answer != PCLCHECK_DONE)
+        return answer;
+    pclcheck_fleet_limit(&fleet, 10);
+    answer = pclcheck_fleet_add(&fleet, subject->profiles[0].bytes, subject->profiles[0].length,
+                                &refusal);
+    if (answer == PCLCHECK_DONE)
+        answer = pclcheck_tell(&fleet, 0, NAME, sizeof NAME, subject->job.bytes,
+                               subject->job.length, &subject->verdict, text, room, needed);
+    pclcheck_fleet_free(&fleet);
+    return answer;
+}
+
 static uint32_t list(struct subject *subject, uint8_t *text, size_t room, size_t *needed)
 {
     return pclcheck_list(subject->job.bytes, subject->job.length, &subject->verdict, text, room,
@@ -221,7 +288,9 @@ static uint32_t pin_nothing(struct subject *subject, uint8_t *text, size_t room,
 const struct call CALLS[] = {
     {"version", version}, {"explain", explain}, {"unheard", unheard},
     {"printer-name", printer_name}, {"tell", tell}, {"tell-first", tell_first},
-    {"tell-last", tell_last}, {"tell-none", tell_none}, {"list", list}, {"plain", plain},
+    {"tell-last", tell_last}, {"tell-none", tell_none}, {"pieces-1", tell_bytes},
+    {"pieces-7", tell_sevens}, {"pieces-4096", tell_blocks}, {"limit-10", tell_limited},
+    {"list", list}, {"plain", plain},
     {"notes", notes}, {"pages", pages}, {"picture-all", all_pages}, {"picture-1", first_page},
     {"pin", pin}, {"pin-copies", pin_copies}, {"pin-nothing", pin_nothing}
 };

@@ -29,8 +29,9 @@ EXPORTED = ROOT / "include" / "pclcheck.map"
 PAGE = ROOT / "man" / "pclcheck.3"
 MODULE = ROOT / "contrib" / "python"
 # What stands in the module for a pointer to a struct of the header.
-STRUCTS = {"pclcheck_fleet": "_Fleet", "pclcheck_verdict": "_Verdict",
-           "pclcheck_refusal": "_Refusal", "pclcheck_panel_value": "_PanelValue"}
+STRUCTS = {"pclcheck_fleet": "_Fleet", "pclcheck_session": "_Session",
+           "pclcheck_verdict": "_Verdict", "pclcheck_refusal": "_Refusal",
+           "pclcheck_panel_value": "_PanelValue"}
 NUMBERS = {"uint32_t": ctypes.c_uint32, "uint64_t": ctypes.c_uint64, "size_t": ctypes.c_size_t}
 
 

@@ -1,9 +1,10 @@
 /* pclcheck: checks print jobs of PCL 5 for printers, before a sheet is printed. See pclcheck(3).
  *
  * A call allocates by malloc(), and before it returns it frees all that it allocated; what a
- * fleet holds the caller frees, by pclcheck_fleet_free(). No call keeps a pointer behind its end,
- * prints, or ends the program, and nothing is kept between calls but what a fleet holds. So calls
- * of several threads are safe whose fleets and memory are their own.
+ * fleet or a session holds the caller frees, by pclcheck_fleet_free() and pclcheck_session_free().
+ * No call keeps a pointer behind its end, prints, or ends the program, and nothing is kept between
+ * calls but what these hold. So calls of several threads are safe whose fleets, sessions and
+ * memory are their own.
  *
  * No pointer may be NULL. Where a length stands behind it, so many bytes or values lie there, and
  * of none any other pointer serves. What a call writes to overlaps nothing else that it is given.
@@ -36,6 +37,8 @@ extern "C" {
 #define PCLCHECK_NO_FIELD 8    /* a value is chosen for what is no field of the panel */
 #define PCLCHECK_NO_PAGE 9     /* the job does not have this page */
 #define PCLCHECK_UNKNOWN 10    /* nothing has this code, or a name is no UTF-8 */
+#define PCLCHECK_ITEMS 11      /* macros would carry out more items than the fleet allows */
+#define PCLCHECK_JUDGED 12     /* what a session was fed decides the verdict, whatever follows */
 
 /* ---- what crosses beside texts */
 
@@ -68,6 +71,11 @@ struct pclcheck_fleet {
     void *at;
 };
 
+/* A check of a job that comes in pieces, or none: as a fleet. */
+struct pclcheck_session {
+    void *at;
+};
+
 /* ---- the library, and what its numbers mean */
 
 /* Puts the version of the library, as 0.1.0.
@@ -97,6 +105,11 @@ uint32_t pclcheck_printer_name(const uint8_t *profile, size_t profile_length, ui
  * Answers: DONE, MEMORY, and then there is still none. */
 uint32_t pclcheck_fleet_new(struct pclcheck_fleet *fleet);
 
+/* Limits how many items of a job macros may carry out on the printers that are added from here on,
+ * as `pclcheck check --most-items` does. A job that passes the limit has no verdict: checks answer
+ * ITEMS. */
+void pclcheck_fleet_limit(struct pclcheck_fleet *fleet, uint64_t most_items);
+
 /* Adds the printer that the text of a profile describes. The printers of a fleet count from 1, in
  * the order in which they were added.
  *
@@ -114,18 +127,55 @@ void pclcheck_fleet_free(struct pclcheck_fleet *fleet);
  * for the one of this number by itself, as `pclcheck check --each` does; by itself a printer has
  * the number 1 in the verdict. A verdict of number 0 is PASS.
  *
- * Answers: DONE, MEMORY, NO_PRINTER where the fleet has none of this number, LONG. */
+ * Answers: DONE, MEMORY, NO_PRINTER where the fleet has none of this number, ITEMS, LONG. */
 uint32_t pclcheck_check(struct pclcheck_fleet *fleet, size_t printer, const uint8_t *job,
                         size_t job_length, struct pclcheck_verdict *verdict);
 
 /* Checks a job as pclcheck_check() does, and puts the sentence of `pclcheck check --format words`
  * on it with its line end, which begins with this name of the job.
  *
- * Answers: DONE, ROOM, MEMORY, NO_PRINTER, LONG. */
+ * Answers: DONE, ROOM, MEMORY, NO_PRINTER, ITEMS, LONG. */
 uint32_t pclcheck_tell(struct pclcheck_fleet *fleet, size_t printer, const uint8_t *name,
                        size_t name_length, const uint8_t *job, size_t job_length,
                        struct pclcheck_verdict *verdict, uint8_t *text, size_t room,
                        size_t *needed);
+
+/* ---- a job in pieces */
+
+/* Begins a check of a job that comes in pieces, for all printers of a fleet or the one of this
+ * number by itself, as pclcheck_check() does. It stands in place of none: *session is of zero
+ * bytes, or was freed. Until it is freed the fleet stays, and no printer is added to it. A fleet
+ * may have any number of sessions.
+ *
+ * Answers: DONE, MEMORY, NO_PRINTER; after these two there is still none. */
+uint32_t pclcheck_session_new(struct pclcheck_fleet *fleet, size_t printer,
+                              struct pclcheck_session *session);
+
+/* Takes the next piece of the job, of any length, for the fleet with which the session began.
+ * What is kept of a job does not grow with it.
+ *
+ * Answers: DONE while nothing is wrong, JUDGED once the verdict is certain, whatever follows,
+ * MEMORY and LONG, which end the check. After these three a piece changes nothing. */
+uint32_t pclcheck_session_feed(struct pclcheck_fleet *fleet, struct pclcheck_session *session,
+                               const uint8_t *piece, size_t piece_length);
+
+/* Ends the job, and tells the verdict on what was fed, whole. A call behind that tells it again.
+ *
+ * Answers: DONE, MEMORY, ITEMS, LONG. */
+uint32_t pclcheck_session_end(struct pclcheck_fleet *fleet, struct pclcheck_session *session,
+                              struct pclcheck_verdict *verdict);
+
+/* Ends the job as pclcheck_session_end() does, and puts the sentence on it with its line end,
+ * which begins with this name of the job. A call behind that, with more room, puts it again.
+ *
+ * Answers: DONE, ROOM, MEMORY, ITEMS, LONG. */
+uint32_t pclcheck_session_tell(struct pclcheck_fleet *fleet, struct pclcheck_session *session,
+                               const uint8_t *name, size_t name_length,
+                               struct pclcheck_verdict *verdict, uint8_t *text, size_t room,
+                               size_t *needed);
+
+/* Frees a session, be it ended or not, and leaves none. */
+void pclcheck_session_free(struct pclcheck_session *session);
 
 /* ---- texts of a job */
 

@@ -1,5 +1,5 @@
 /* The fleet of a queue, and a check for it. */
-#define _DEFAULT_SOURCE
+#define _GNU_SOURCE
 #include "gate.h"
 
 #include <errno.h>
@@ -8,16 +8,23 @@
 #include <stdio.h>
 #include <stdlib.h>
 #include <string.h>
+#include <sys/stat.h>
 #include <unistd.h>
 
-enum { MOST_PATH = 4096, MOST_SENTENCE = 4096, FIRST_ROOM = 65536 };
+enum { MOST_PATH = 4096, MOST_SENTENCE = 4096, FIRST_ROOM = 65536, PIECE = 65536 };
 /* The cause Range of a profile that is refused. */
 enum { RANGE = 4 };
 
 /* The name that a sentence begins with, which is cut off; a job has none here. */
 static const char NAME[] = "-";
 
-bool gate_read(int file, struct gate_bytes *read_so_far, char *cause, size_t room)
+struct bytes {
+    unsigned char *bytes;
+    size_t length;
+};
+
+/* Reads what is left of an open file, or says why it cannot; the bytes are freed by free(). */
+static bool read_all(int file, struct bytes *read_so_far, char *cause, size_t room)
 {
     size_t space = FIRST_ROOM;
 
@@ -49,27 +56,11 @@ bool gate_read(int file, struct gate_bytes *read_so_far, char *cause, size_t roo
     return false;
 }
 
-bool gate_repeat(struct gate_bytes *job, unsigned copies)
-{
-    size_t one = job->length;
-    unsigned char *grown;
-
-    if (copies < 2 || one == 0)
-        return true;
-    if (one > SIZE_MAX / copies || (grown = realloc(job->bytes, one * copies)) == NULL)
-        return false;
-    for (unsigned at = 1; at < copies; at++)
-        memcpy(grown + at * one, grown, one);
-    job->bytes = grown;
-    job->length = one * copies;
-    return true;
-}
-
-static bool read_path(const char *path, struct gate_bytes *text, char *cause, size_t room)
+static bool read_path(const char *path, struct bytes *text, char *cause, size_t room)
 {
     char why[128];
     int file = open(path, O_RDONLY | O_CLOEXEC);
-    bool is_read = file >= 0 && gate_read(file, text, why, sizeof why);
+    bool is_read = file >= 0 && read_all(file, text, why, sizeof why);
 
     if (file < 0)
         snprintf(why, sizeof why, "%s", strerror(errno));
@@ -99,7 +90,7 @@ static const char *cause_of(const struct pclcheck_refusal *refusal)
 /* Adds the printer of one profile. */
 static bool add_printer(struct pclcheck_fleet *fleet, const char *path, char *cause, size_t room)
 {
-    struct gate_bytes text;
+    struct bytes text;
     struct pclcheck_refusal refusal;
     uint32_t answer;
 
@@ -156,7 +147,7 @@ bool gate_open(const char *queue, struct pclcheck_fleet *fleet, char *cause, siz
 {
     const char *folder = getenv("PCLCHECK_FLEETS");
     char path[MOST_PATH];
-    struct gate_bytes text;
+    struct bytes text;
     char *lines;
     bool is_open;
 
@@ -197,18 +188,101 @@ static void put_trouble(uint32_t answer, char *sentence, size_t room)
     const char *why = answer == PCLCHECK_MEMORY ? "memory ran out"
                     : answer == PCLCHECK_NO_PRINTER ? "the fleet has no printer"
                     : answer == PCLCHECK_LONG ? "the job is too long"
+                    : answer == PCLCHECK_ITEMS ? "its macros carry out too many items"
                     : "the check stopped";
     snprintf(sentence, room, "no verdict on this job: %s", why);
 }
 
-enum gate_answer gate_check(struct pclcheck_fleet *fleet, const struct gate_bytes *job,
-                            char *sentence, size_t room)
+/* ---- a job in pieces */
+
+/* A file without a name, in TMPDIR or /tmp. */
+static int new_spool(void)
+{
+    const char *folder = getenv("TMPDIR");
+    char path[MOST_PATH];
+    int file;
+
+    snprintf(path, sizeof path, "%s/pclcheck.XXXXXX", folder != NULL ? folder : "/tmp");
+    file = mkostemp(path, O_CLOEXEC);
+    if (file >= 0)
+        unlink(path);
+    return file;
+}
+
+static int spool_of(int job)
+{
+    struct stat told;
+
+    return fstat(job, &told) == 0 && S_ISREG(told.st_mode) ? dup(job) : new_spool();
+}
+
+static ssize_t read_piece(int file, unsigned char *piece)
+{
+    ssize_t got;
+
+    do
+        got = read(file, piece, PIECE);
+    while (got < 0 && errno == EINTR);
+    return got;
+}
+
+static bool write_piece(int file, const unsigned char *piece, size_t length)
+{
+    while (length > 0) {
+        ssize_t written = write(file, piece, length);
+        if (written < 0 && errno != EINTR)
+            return false;
+        if (written > 0) {
+            piece += written;
+            length -= (size_t)written;
+        }
+    }
+    return true;
+}
+
+/* A check under way, and what its last call answered. */
+struct check {
+    struct pclcheck_fleet *fleet;
+    struct pclcheck_session session;
+    uint32_t answer;
+};
+
+/* Feeds what is left of a file, until the check wants no more; what comes by a pipe is kept. */
+static bool feed(struct check *check, int file, int spool, bool is_kept)
+{
+    unsigned char piece[PIECE];
+    ssize_t got;
+
+    while (check->answer == PCLCHECK_DONE && (got = read_piece(file, piece)) != 0) {
+        if (got < 0 || (!is_kept && !write_piece(spool, piece, (size_t)got)))
+            return false;
+        check->answer = pclcheck_session_feed(check->fleet, &check->session, piece, (size_t)got);
+    }
+    return true;
+}
+
+/* Feeds the job, and then its further copies from where the first is kept. */
+static bool feed_copies(struct check *check, int job, unsigned copies, int spool)
+{
+    struct stat told;
+    bool is_kept = fstat(job, &told) == 0 && S_ISREG(told.st_mode);
+
+    if (!feed(check, job, spool, is_kept))
+        return false;
+    for (unsigned at = 1; at < copies && check->answer == PCLCHECK_DONE; at++) {
+        if (lseek(spool, 0, SEEK_SET) != 0 || !feed(check, spool, spool, true))
+            return false;
+    }
+    return true;
+}
+
+static enum gate_answer tell(struct check *check, char *sentence, size_t room)
 {
     struct pclcheck_verdict verdict;
     uint8_t text[MOST_SENTENCE];
     size_t needed;
-    uint32_t answer = pclcheck_tell(fleet, 0, (const uint8_t *)NAME, sizeof NAME - 1, job->bytes,
-                                    job->length, &verdict, text, sizeof text, &needed);
+    uint32_t answer = pclcheck_session_tell(check->fleet, &check->session, (const uint8_t *)NAME,
+                                            sizeof NAME - 1, &verdict, text, sizeof text, &needed);
 
     if (answer == PCLCHECK_DONE) {
         put_sentence((const char *)text, needed, sentence, room);
@@ -219,4 +293,44 @@ enum gate_answer gate_check(struct pclcheck_fleet *fleet, const struct gate_byte
         return GATE_NO_VERDICT;
     }
     return verdict.number == 0 ? GATE_PASSES : GATE_FAILS;
+}
+
+enum gate_answer gate_check(struct pclcheck_fleet *fleet, int job, unsigned copies, int *spool,
+                            char *sentence, size_t room)
+{
+    struct check check = {.fleet = fleet};
+    enum gate_answer answer = GATE_NO_VERDICT;
+
+    *spool = spool_of(job);
+    if (*spool < 0) {
+        snprintf(sentence, room, "the job could not be kept: %s", strerror(errno));
+        return answer;
+    }
+    check.answer = pclcheck_session_new(fleet, 0, &check.session);
+    if (check.answer != PCLCHECK_DONE) {
+        put_trouble(check.answer, sentence, room);
+        return answer;
+    }
+    if (feed_copies(&check, job, copies, *spool))
+        answer = tell(&check, sentence, room);
+    else
+        snprintf(sentence, room, "the job could not be read: %s", strerror(errno));
+    pclcheck_session_free(&check.session);
+    return answer;
+}
+
+bool gate_pass(int spool, unsigned copies, gate_put *put, void *to)
+{
+    unsigned char piece[PIECE];
+    ssize_t got;
+
+    for (unsigned at = 0; at < copies; at++) {
+        if (lseek(spool, 0, SEEK_SET) != 0)
+            return false;
+        while ((got = read_piece(spool, piece)) != 0) {
+            if (got < 0 || !put(to, piece, (size_t)got))
+                return false;
+        }
+    }
+    return true;
 }

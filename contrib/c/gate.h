@@ -13,25 +13,22 @@ enum gate_answer {
     GATE_NO_VERDICT                     /* the check came to no end */
 };
 
-/* The bytes of a file, or of a job with its copies; `bytes` is freed by free(). */
-struct gate_bytes {
-    unsigned char *bytes;
-    size_t length;
-};
-
-/* Reads what is left of an open file, or says why it cannot. */
-bool gate_read(int file, struct gate_bytes *read, char *cause, size_t room);
-
-/* Puts so many copies of the bytes in their place, with nothing between them. */
-bool gate_repeat(struct gate_bytes *job, unsigned copies);
-
 /* Reads the fleet of a queue, FOLDER/QUEUE.fleet, a text with the path of a profile a line;
    FOLDER is PCLCHECK_FLEETS, or /etc/pclcheck. Where it says false, `cause` says why, and there is
    nothing to free. */
 bool gate_open(const char *queue, struct pclcheck_fleet *fleet, char *cause, size_t room);
 
-/* Checks a job for a fleet, and puts what is told of it, a sentence without the name of the job. */
-enum gate_answer gate_check(struct pclcheck_fleet *fleet, const struct gate_bytes *job,
+/* Checks what a printer gets, so many copies of a job as one stream, piece by piece, and puts what
+   is told of it, a sentence without the name of the job. It reads no further than the verdict needs.
+   `*spool` is a file with what was read, for gate_pass(): that of the job, or where this comes by a
+   pipe one without a name. The caller closes it; it is below 0 where there is none. */
+enum gate_answer gate_check(struct pclcheck_fleet *fleet, int job, unsigned copies, int *spool,
                             char *sentence, size_t room);
+
+/* Takes bytes on the way to the printer, or says false. */
+typedef bool gate_put(void *to, const unsigned char *bytes, size_t length);
+
+/* Hands on so many copies of a job that was checked; false where one of its bytes was not. */
+bool gate_pass(int spool, unsigned copies, gate_put *put, void *to);
 
 #endif

@@ -34,37 +34,48 @@ static unsigned copies_of(int argc, char *argv[])
     return *end == '\0' && copies >= 1 && copies <= MOST_COPIES ? (unsigned)copies : 0;
 }
 
-static bool write_all(const struct gate_bytes *job)
+static bool put(void *to, const unsigned char *bytes, size_t length)
 {
-    return fwrite(job->bytes, 1, job->length, stdout) == job->length && fflush(stdout) == 0;
+    return fwrite(bytes, 1, length, to) == length;
+}
+
+/* Reads what is left, so that who writes it is not stopped. */
+static void drain(int file)
+{
+    char rest[4096];
+
+    while (read(file, rest, sizeof rest) > 0)
+        ;
 }
 
 /* Checks what the printer gets, all copies as one stream, and hands it on where it passes. */
-static int pass_on(struct pclcheck_fleet *fleet, const struct gate_bytes *job)
+static int pass_on(struct pclcheck_fleet *fleet, int file, unsigned copies)
 {
     char sentence[2048];
+    int spool, status = EXIT_SUCCESS;
 
-    if (gate_check(fleet, job, sentence, sizeof sentence) != GATE_PASSES)
-        return stop(sentence);
-    fprintf(stderr, "NOTICE: preflight: %s\n", sentence);
-    return write_all(job) ? EXIT_SUCCESS : stop("the job could not be handed on");
+    if (gate_check(fleet, file, copies, &spool, sentence, sizeof sentence) != GATE_PASSES) {
+        drain(file);
+        status = stop(sentence);
+    } else {
+        fprintf(stderr, "NOTICE: preflight: %s\n", sentence);
+        if (!gate_pass(spool, copies, put, stdout) || fflush(stdout) != 0)
+            status = stop("the job could not be handed on");
+    }
+    if (spool >= 0)
+        close(spool);
+    return status;
 }
 
 static int run(int file, const char *queue, unsigned copies)
 {
-    struct gate_bytes job;
     struct pclcheck_fleet fleet;
     char cause[1024];
     int status;
 
     if (!gate_open(queue, &fleet, cause, sizeof cause))
         return stop(cause);
-    if (!gate_read(file, &job, cause, sizeof cause)) {
-        pclcheck_fleet_free(&fleet);
-        return stop(cause);
-    }
-    status = gate_repeat(&job, copies) ? pass_on(&fleet, &job) : stop("memory ran out");
-    free(job.bytes);
+    status = pass_on(&fleet, file, copies);
     pclcheck_fleet_free(&fleet);
     return status;
 }

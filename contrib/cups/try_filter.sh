@@ -42,3 +42,16 @@ say 'filter: and nothing of it is printed' prints_nothing
 cp "$cups/fleets/front.fleet" "$cups/fleets/filtered-gone.fleet"
 lp -i "$name" -H restart || :
 say 'filter: tried again with a fleet, it is printed' prints "$job"
+
+# A filter before this one writes into a pipe, whose job is kept in a file without a name.
+by_pipe() {                     # by_pipe QUEUE
+    cat "$job" | PRINTER=$1 PCLCHECK_FLEETS=$cups/fleets "$work/bin/pclfilter" 1 user title 1 '' \
+        >"$cups/piped" 2>"$cups/told"
+}
+hands_on() { by_pipe filtered-front && cmp "$cups/piped" "$job"; }
+stops_pipe() {
+    if by_pipe filtered-all; then return 1; fi
+    [ ! -s "$cups/piped" ] && has "$refusal" "$cups/told"
+}
+say 'filter: a job that comes by a pipe is handed on' hands_on
+say 'filter: or stopped' stops_pipe

@@ -39,62 +39,73 @@ static bool abort_job(pappl_job_t *job, const char *sentence)
     return false;
 }
 
-static bool send_all(pappl_job_t *job, pappl_device_t *device, const struct gate_bytes *bytes)
+/* A job on its way to the printer. */
+struct way {
+    pappl_job_t *job;
+    pappl_device_t *device;
+};
+
+static bool put(void *to, const unsigned char *bytes, size_t length)
 {
+    struct way *way = to;
     size_t sent = 0;
 
-    while (sent < bytes->length && !papplJobIsCanceled(job)) {
-        ssize_t written = papplDeviceWrite(device, bytes->bytes + sent, bytes->length - sent);
+    while (sent < length && !papplJobIsCanceled(way->job)) {
+        ssize_t written = papplDeviceWrite(way->device, bytes + sent, length - sent);
         if (written <= 0)
-            return abort_job(job, "the printer took only a part of the job");
+            return false;
         sent += (size_t)written;
     }
-    papplDeviceFlush(device);
-    return true;
+    return sent == length;
+}
+
+static bool send_all(struct way *way, int spool, unsigned copies)
+{
+    bool is_sent = gate_pass(spool, copies, put, way);
+
+    papplDeviceFlush(way->device);
+    if (is_sent || papplJobIsCanceled(way->job))
+        return true;
+    return abort_job(way->job, "the printer took only a part of the job");
 }
 
 /* Checks what the printer gets, all copies as one stream, and sends it where it passes. */
-static bool check_and_send(pappl_job_t *job, pappl_device_t *device,
-                           struct pclcheck_fleet *fleet, const struct gate_bytes *bytes)
+static bool check_and_send(struct way *way, struct pclcheck_fleet *fleet, int file, unsigned copies)
 {
     char sentence[1024];
+    bool is_sent = false;
+    int spool;
 
-    if (gate_check(fleet, bytes, sentence, sizeof sentence) != GATE_PASSES)
-        return abort_job(job, sentence);
-    papplLogJob(job, PAPPL_LOGLEVEL_INFO, "preflight: %s", sentence);
-    return send_all(job, device, bytes);
-}
-
-static bool read_job(pappl_job_t *job, struct gate_bytes *bytes, char *cause, size_t room)
-{
-    int file = open(papplJobGetFilename(job), O_RDONLY | O_CLOEXEC);
-    bool is_read = file >= 0 && gate_read(file, bytes, cause, room);
-
-    if (file < 0)
-        snprintf(cause, room, "the job could not be read");
-    else
-        close(file);
-    return is_read;
+    if (gate_check(fleet, file, copies, &spool, sentence, sizeof sentence) != GATE_PASSES) {
+        abort_job(way->job, sentence);
+    } else {
+        papplLogJob(way->job, PAPPL_LOGLEVEL_INFO, "preflight: %s", sentence);
+        is_sent = send_all(way, spool, copies);
+    }
+    if (spool >= 0)
+        close(spool);
+    return is_sent;
 }
 
 /* The profiles are read for each job, so that one that was changed counts at once. */
 static bool print_job(pappl_job_t *job, pappl_pr_options_t *options, pappl_device_t *device)
 {
     struct pclcheck_fleet fleet;
-    struct gate_bytes bytes;
+    struct way way = {job, device};
     char cause[1024];
     unsigned copies = options->copies > 1 ? (unsigned)options->copies : 1;
-    bool is_printed;
+    bool is_printed = false;
+    int file;
 
     if (!gate_open(papplPrinterGetName(papplJobGetPrinter(job)), &fleet, cause, sizeof cause))
         return abort_job(job, cause);
-    if (!read_job(job, &bytes, cause, sizeof cause)) {
-        pclcheck_fleet_free(&fleet);
-        return abort_job(job, cause);
-    }
-    is_printed = gate_repeat(&bytes, copies) ? check_and_send(job, device, &fleet, &bytes)
-                                             : abort_job(job, "memory ran out");
-    free(bytes.bytes);
+    file = open(papplJobGetFilename(job), O_RDONLY | O_CLOEXEC);
+    if (file < 0)
+        abort_job(job, "the job could not be read");
+    else
+        is_printed = check_and_send(&way, &fleet, file, copies);
+    if (file >= 0)
+        close(file);
     pclcheck_fleet_free(&fleet);
     return is_printed;
 }

@@ -27,8 +27,8 @@ from types import TracebackType
 from typing import Any, NamedTuple, NoReturn, Optional, Union
 
 __all__ = ["Cause", "Error", "Fleet", "JobText", "NoPage", "PanelRefused", "ProfileRefused",
-           "Unknown", "Verdict", "explain", "list_items", "notes", "pages", "picture", "pin",
-           "plain", "printer_name", "version"]
+           "Session", "TooManyItems", "Unknown", "Verdict", "explain", "list_items", "notes",
+           "pages", "picture", "pin", "plain", "printer_name", "version"]
 
 _FIRST_ROOM = 4096
 _FIELDS = ("size", "orientation", "vmi", "font", "copies", "sides", "tray", "lineterm")
@@ -50,6 +50,8 @@ class _Number(enum.IntEnum):
     NO_FIELD = 8
     NO_PAGE = 9
     UNKNOWN = 10
+    ITEMS = 11
+    JUDGED = 12
 
 
 class Cause(enum.IntEnum):
@@ -91,6 +93,10 @@ class Unknown(Error):
     """Nothing has this number or name."""
 
 
+class TooManyItems(Error):
+    """Macros would carry out more items of the job than the fleet allows."""
+
+
 @dataclass(frozen=True)
 class Verdict:
     """What came of a job; it is true where nothing is wrong.
@@ -129,6 +135,10 @@ class _Fleet(ctypes.Structure):
     _fields_ = [("at", ctypes.c_void_p)]
 
 
+class _Session(ctypes.Structure):
+    _fields_ = [("at", ctypes.c_void_p)]
+
+
 class _Verdict(ctypes.Structure):
     _fields_ = [("pages", ctypes.c_uint64), ("marks", ctypes.c_uint64),
                 ("place", ctypes.c_uint64), ("printer", ctypes.c_uint64),
@@ -150,6 +160,7 @@ class _PanelValue(ctypes.Structure):
 _BYTES = (ctypes.c_char_p, ctypes.c_size_t)
 _TEXT = (ctypes.POINTER(ctypes.c_char), ctypes.c_size_t, ctypes.POINTER(ctypes.c_size_t))
 _OF_FLEET = ctypes.POINTER(_Fleet)
+_OF_SESSION = ctypes.POINTER(_Session)
 _OF_VERDICT = ctypes.POINTER(_Verdict)
 _OF_REFUSAL = ctypes.POINTER(_Refusal)
 _VALUES = (ctypes.POINTER(_PanelValue), ctypes.c_size_t)
@@ -159,10 +170,16 @@ _CALLS: dict[str, tuple[Any, ...]] = {
     "pclcheck_explain": (*_BYTES, *_TEXT),
     "pclcheck_printer_name": (*_BYTES, *_TEXT),
     "pclcheck_fleet_new": (_OF_FLEET,),
+    "pclcheck_fleet_limit": (_OF_FLEET, ctypes.c_uint64),
     "pclcheck_fleet_add": (_OF_FLEET, *_BYTES, _OF_REFUSAL),
     "pclcheck_fleet_free": (_OF_FLEET,),
     "pclcheck_check": (_OF_FLEET, ctypes.c_size_t, *_BYTES, _OF_VERDICT),
     "pclcheck_tell": (_OF_FLEET, ctypes.c_size_t, *_BYTES, *_BYTES, _OF_VERDICT, *_TEXT),
+    "pclcheck_session_new": (_OF_FLEET, ctypes.c_size_t, _OF_SESSION),
+    "pclcheck_session_feed": (_OF_FLEET, _OF_SESSION, *_BYTES),
+    "pclcheck_session_end": (_OF_FLEET, _OF_SESSION, _OF_VERDICT),
+    "pclcheck_session_tell": (_OF_FLEET, _OF_SESSION, *_BYTES, _OF_VERDICT, *_TEXT),
+    "pclcheck_session_free": (_OF_SESSION,),
     "pclcheck_list": (*_BYTES, _OF_VERDICT, *_TEXT),
     "pclcheck_plain": (*_BYTES, _OF_VERDICT, *_TEXT),
     "pclcheck_notes": (*_BYTES, *_BYTES, _OF_REFUSAL, _OF_VERDICT, *_TEXT),
@@ -172,13 +189,17 @@ _CALLS: dict[str, tuple[Any, ...]] = {
 }
 
 
+# The calls that answer nothing.
+_SILENT = ("pclcheck_fleet_limit", "pclcheck_fleet_free", "pclcheck_session_free")
+
+
 @functools.lru_cache(maxsize=None)
 def _library() -> ctypes.CDLL:
     library = ctypes.CDLL(os.environ.get("PCLCHECK_LIBRARY", "libpclcheck.so.0"))
     for name, parameters in _CALLS.items():
         call = getattr(library, name)
         call.argtypes = parameters
-        call.restype = None if name == "pclcheck_fleet_free" else ctypes.c_uint32
+        call.restype = None if name in _SILENT else ctypes.c_uint32
     return library
 
 
@@ -201,6 +222,8 @@ def _fail(answer: int, refusal: Optional[_Refusal] = None) -> NoReturn:
         raise NoPage("the job does not have this page")
     if answer == _Number.UNKNOWN:
         raise Unknown("nothing has this number or name")
+    if answer == _Number.ITEMS:
+        raise TooManyItems("macros would carry out more items than the fleet allows")
     raise Error(f"the library answers {_Number(answer).name}")
 
 
@@ -229,13 +252,17 @@ class Fleet:
     """Printers, whose profiles are read once. A fleet may be used by several threads, one after
     another; who wants checks side by side makes a fleet for each thread."""
 
-    def __init__(self, *profiles: bytes) -> None:
-        """A fleet of the printers that these texts describe. Raises ProfileRefused."""
+    def __init__(self, *profiles: bytes, most_items: Optional[int] = None) -> None:
+        """A fleet of the printers that these texts describe. Checks of a job whose macros carry out
+        more than so many items raise TooManyItems. Raises ProfileRefused."""
         self._held = _Fleet()
-        self._lock = threading.Lock()
-        self._count = 0
+        # A session that is forgotten may be freed within another call.
+        self._lock = threading.RLock()
+        self._count = self._sessions = 0
         if answer := _call("pclcheck_fleet_new", ctypes.byref(self._held)):
             _fail(answer)
+        if most_items is not None:
+            _call("pclcheck_fleet_limit", ctypes.byref(self._held), most_items)
         try:
             for profile in profiles:
                 self.add(profile)
@@ -250,9 +277,11 @@ class Fleet:
 
     def add(self, profile: bytes) -> None:
         """Adds the printer that a text describes. Raises ProfileRefused, and then the fleet is as
-        it was."""
+        it was. While jobs come in pieces there is none added."""
         refusal = _Refusal()
         with self._lock:
+            if self._sessions:
+                raise ValueError("a session of the fleet is open")
             answer = _call("pclcheck_fleet_add", self._open(), *_bytes(profile),
                            ctypes.byref(refusal))
             if answer:
@@ -271,6 +300,10 @@ class Fleet:
     def check_each(self, job: bytes, name: str = "job") -> list[Verdict]:
         """The verdict for each printer alone."""
         return [self.check(job, name, number + 1) for number in range(len(self))]
+
+    def session(self, printer: int = 0) -> Session:
+        """A check of a job that comes in pieces, for all printers or the one of this number."""
+        return Session(self, printer)
 
     def close(self) -> None:
         """Frees the fleet, which is not used any more. A second time it does nothing."""
@@ -295,6 +328,68 @@ class Fleet:
 
     def __del__(self) -> None:
         if hasattr(self, "_lock"):
+            self.close()
+
+
+class Session:
+    """A check of a job that comes in pieces, which are not kept.
+
+        with fleet.session() as session:
+            for piece in pieces:
+                if session.feed(piece):
+                    break
+            verdict = session.end(name="invoice.pcl")
+    """
+
+    def __init__(self, fleet: Fleet, printer: int = 0) -> None:
+        self._held = _Session()
+        self._fleet = fleet
+        with fleet._lock:
+            answer = _call("pclcheck_session_new", fleet._open(), printer,
+                           ctypes.byref(self._held))
+            if answer:
+                _fail(answer)
+            fleet._sessions += 1
+
+    def feed(self, piece: bytes) -> bool:
+        """Takes the next piece, and tells whether the verdict is certain, whatever follows."""
+        with self._fleet._lock:
+            answer = _call("pclcheck_session_feed", self._fleet._open(), self._open(),
+                           *_bytes(piece))
+        if answer not in (_Number.DONE, _Number.JUDGED):
+            _fail(answer)
+        return answer == _Number.JUDGED
+
+    def end(self, name: str = "job") -> Verdict:
+        """The verdict on what was fed, whole; the sentence has this name of the job. A second time
+        it is the same, and pieces change nothing."""
+        told = _Verdict()
+        with self._fleet._lock:
+            text = _text("pclcheck_session_tell", self._fleet._open(), self._open(),
+                         *_bytes(name.encode()), ctypes.byref(told))
+        return told.told(text.decode().rstrip("\n"))
+
+    def close(self) -> None:
+        """Frees the session, which is not used any more. A second time it does nothing."""
+        with self._fleet._lock:
+            if self._held.at is not None:
+                _call("pclcheck_session_free", ctypes.byref(self._held))
+                self._fleet._sessions -= 1
+
+    def _open(self) -> Any:
+        if self._held.at is None:
+            raise ValueError("the session is closed")
+        return ctypes.byref(self._held)
+
+    def __enter__(self) -> Session:
+        return self
+
+    def __exit__(self, kind: Optional[type[BaseException]], error: Optional[BaseException],
+                 trace: Optional[TracebackType]) -> None:
+        self.close()
+
+    def __del__(self) -> None:
+        if hasattr(self, "_fleet"):
             self.close()
 
 

@@ -13,6 +13,7 @@ import pclcheck
 
 PROFILES = ("front_desk.profile", "back_office.profile", "export_desk.profile")
 THREADS = 8
+PIECE = 100
 
 
 def written(program: str, folder: Path, *words: str) -> str:
@@ -36,6 +37,11 @@ def try_job(program: str, folder: Path, fleet: pclcheck.Fleet, name: str) -> Non
     verdict = fleet.check(job, name)
     words = ["check", "--format", "words", *fleet_words, name]
     assert verdict.sentence + "\n" == written(program, folder, *words), name
+    with fleet.session() as session:
+        for at in range(0, len(job), PIECE):
+            if session.feed(job[at:at + PIECE]):
+                break
+        assert session.end(name) == session.end(name) == verdict, name
     each = "".join(f"{one.sentence}\n" for one in fleet.check_each(job, name))
     assert each == written(program, folder, *words[:3], "--each", *words[3:]), name
     assert bool(verdict) == verdict.passes == (verdict.number == 0)
@@ -63,6 +69,15 @@ def try_errors(folder: Path, fleet: pclcheck.Fleet) -> None:
     closed.close()
     closed.close()
     assert raised(lambda: closed.check(job)) == "ValueError"
+    session = fleet.session()
+    assert raised(lambda: fleet.add(profile)) == "ValueError"
+    session.close()
+    session.close()
+    assert raised(lambda: session.feed(job)) == "ValueError"
+    limited = pclcheck.Fleet(profile, most_items=0)
+    macros = b"\x1b&f1Y\x1b&f0X\r\x1b&f1X\x1b&f2X"
+    assert raised(lambda: limited.check(macros)) == "TooManyItems"
+    assert not raised(lambda: fleet.check(macros))
 
 
 def try_threads(folder: Path, fleet: pclcheck.Fleet) -> None:

@@ -6,8 +6,9 @@ use Rattle.device_profile.specs.Printer.{Printer}
 use Rattle.device_profile.specs.Text.{IsErrorOfText}
 use Rattle.preflight.specs.declared.failing_item.Judgement.{Judgement}
 use Rattle.preflight.specs.FailingItem.{IsTold}
+use Rattle.preflight.specs.Judgement.{IsAnswer}
 use Rattle.preflight.specs.Stood.{IsCursorOf, IsFontOf}
-use Rattle.preflight.specs.Verdict.{IsExact, VerdictHolds}
+use Rattle.preflight.specs.Verdict.{IsExact, PassesItems, VerdictHolds}
 use Rattle.preflight.specs.Where.{IsOnPage}
 use Rattle.renderings.specs.declared.outcome.Outcome.{Outcome}
 use Rattle.renderings.specs.Expected.{IsExpected, Rendering, Renders}
@@ -20,7 +21,7 @@ use Rattle.pclcheck_c.specs.declared.told.Told.{Told}
 use Rattle.pclcheck_c.specs.declared.why.Why.{Why}
 use Rattle.pclcheck_c.specs.declared.why.Why.TheVariants.{Stopped, Refused, NotAllowed, NoField, NoPage, Unheard, NotText}
 use Rattle.pclcheck_c.specs.Answers.{IsStop, IsWhyOf, outcome_row, why_of}
-use Rattle.pclcheck_c.specs.Checked.{IsJudged}
+use Rattle.pclcheck_c.specs.Checked.{PassesLimit}
 use Rattle.pclcheck_c.specs.Texts.{IsWrittenWithLine}
 
 -- what holds of every job that may be by the reads holds of the one that was known
@@ -50,6 +51,10 @@ module _ (rendering : Rendering) (start after : SourceState) (kept kept' : Outle
       (text, outcome, written_known outcome text rendered known empty is, told_is.1, told_is.0)
   told_with_line outcome text (Err why) rendered known empty is told_is = tt
 
+pub both_of : (work : Result Told Why) (P Q : Told → Type 0) → IfOk work P → IfOk work Q → IfOk work (λ told. P told × Q told)
+both_of (Ok told) P Q p q = (p, q)
+both_of (Err why) P Q p q = tt
+
 -- ---- why there is none
 
 pub stop_is_why : (number : ℕ) (text : List ℕ) (why : Why) → IsStop why → IsWhyOf number text why
@@ -73,6 +78,15 @@ why_of_fault number text Memory is = tt
 -- ---- verdicts
 
 module _ (start after : SourceState) (fleet : List Printer) (job : List ℕ) where
+  -- a job that is known passes the limit of items
+  pub passes_known : PassesItems fleet start after → start.remaining ≡ Some job → PassesLimit fleet job
+  passes_known passes known = (
+    passes.verdict,
+    passes.many,
+    known_by start after job (λ bytes. IsExact fleet bytes passes.verdict) passes.exact known,
+    known_by start after job (λ bytes. VerdictHolds fleet bytes passes.verdict) passes.promise known,
+  )
+
   pub judged_known : (r : Result Judgement Error) → start.remaining ≡ Some job
       → IfOk r (λ answer. ByReads start after (λ bytes. IsExact fleet bytes answer.verdict))
       → IfOk r (λ answer. ByReads start after (λ bytes. VerdictHolds fleet bytes answer.verdict))
@@ -80,7 +94,7 @@ module _ (start after : SourceState) (fleet : List Printer) (job : List ℕ) whe
       → IfOk r (λ answer. ByReads start after (λ bytes. IsOnPage fleet bytes answer.verdict answer.page))
       → IfOk r (λ answer. ByReads start after (λ bytes. IsCursorOf fleet bytes answer.verdict answer.cursor))
       → IfOk r (λ answer. ByReads start after (λ bytes. IsFontOf fleet bytes answer.verdict answer.font))
-      → IfOk r (IsJudged fleet job)
+      → IfOk r (IsAnswer fleet job)
   judged_known (Ok answer) known exact promise told paged placed asks = record {
     exact = known_by start after job (λ bytes. IsExact fleet bytes answer.verdict) exact known;
     promise = known_by start after job (λ bytes. VerdictHolds fleet bytes answer.verdict) promise known;

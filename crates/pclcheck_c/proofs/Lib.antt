@@ -1,3 +1,5 @@
 mod AsBox
+mod AsSession
 mod Known
 mod Pictures
+mod Sessions

@@ -6,6 +6,8 @@ use Rattle.device_profile.specs.declared.fault.Cause.TheVariants.{NoGeometry}
 use Rattle.device_profile.specs.declared.fault.ProfileFault.{ProfileFault}
 use Rattle.device_profile.specs.declared.fault.ProfileFault.TheVariants.{Fault, Memory as NoMemory}
 use Rattle.device_profile.specs.Text.{printer_of_text}
+use Rattle.preflight.specs.declared.kept_check.KeptCheck.{KeptCheck}
+use Rattle.preflight.specs.declared.kept_check.KeptCheck.TheVariants.{Open, Judged, Stopped as StoppedBy}
 use Rattle.renderings.specs.declared.outcome.Outcome.{Outcome}
 use Rattle.renderings.specs.declared.outcome.Outcome.TheVariants.{Done, Fail as FailsOf}
 use Rattle.streams.specs.declared.error.Error.{Error}
@@ -22,14 +24,14 @@ use Rattle.pclcheck_c.specs.declared.why.Why.TheVariants.{NotText}
 
 -- ---- numbers
 
--- why work stopped; a job and a text in memory are read and written without a failure, and no profile limits macros
+-- why work stopped; a job and a text in memory are read and written without a failure
 abbrev pub error_number : Error → ℕ
 error_number Memory = 2
 error_number Turns = 3
 error_number NoProfile = 4
 error_number Read = 5
 error_number Write = 5
-error_number Items = 5
+error_number Items = 11
 
 -- what is wrong with the text of a profile
 abbrev pub cause_number : Cause → ℕ
@@ -49,6 +51,12 @@ why_number NoField = 8
 why_number NoPage = 9
 why_number Unheard = 10
 why_number NotText = 10
+
+-- how far a check has come: nothing is wrong so far, or there is an answer, whatever follows, or it stopped
+abbrev pub progress_number : {A : Type 0} → KeptCheck A → ℕ
+progress_number (Open check) = 0
+progress_number (Judged answer) = 12
+progress_number (StoppedBy error) = error_number error
 
 -- by what is wrong with the text of the profile of this number
 abbrev pub why_of : ℕ → ProfileFault → Why

@@ -1,12 +1,13 @@
 -- What the calls on fleets leave.
-use Rattle.std.specs.Prelude.{◌≡◌, ◌⊎◌, ◌+◌, ℕ, List, [], ◌∷◌, ◌++◌, length, map, Option, Some, Result, Ok, IfOk, IfErr}
+use Rattle.std.specs.Prelude.{◌≡◌, ◌⊎◌, ◌+◌, ℕ, List, [], ◌∷◌, ◌++◌, length, map, Option, None, Some}
+use Rattle.std.specs.Prelude.{Result, IfOk, IfErr}
 use Rattle.device_profile.specs.Name.{printer_name}
 use Rattle.device_profile.specs.Printer.{Printer}
-use Rattle.device_profile.specs.Text.{printer_of_text}
 use Rattle.pclcheck_c.specs.declared.fleet.Fleet.{Fleet}
 use Rattle.pclcheck_c.specs.declared.rows.Refusal.{Refusal}
 use Rattle.pclcheck_c.specs.declared.why.Why.{Why}
 use Rattle.pclcheck_c.specs.Answers.{IsWhyOf, refusal_by, work_number}
+use Rattle.pclcheck_c.specs.Limits.{IsPrinterOf}
 
 -- the names of the printers
 abbrev pub names_of : Fleet → List (List ℕ)
@@ -16,18 +17,21 @@ names_of fleet = map (λ name. name.items) fleet.names.items
 pub record HasNone (fleet : Fleet) : Type 0 where
   pub printers : fleet.profiles.items ≡ []
   pub names : names_of fleet ≡ []
+  pub no_limit : fleet.most_items ≡ None
 
--- the same printers, with the same names
+-- the same printers, with the same names and limit
 pub record IsSame (old new : Fleet) : Type 0 where
   pub printers : new.profiles.items ≡ old.profiles.items
   pub names : names_of new ≡ names_of old
+  pub limit : new.most_items ≡ old.most_items
 
--- and behind them the one that this text describes
+-- and behind them the one that this text describes, with the limit of the fleet
 pub record IsWith (text : List ℕ) (old new : Fleet) : Type 0 where
   pub printer : Printer
-  pub described : printer_of_text text ≡ Ok printer
+  pub described : IsPrinterOf old.most_items text printer
   pub printers : new.profiles.items ≡ old.profiles.items ++ printer ∷ []
   pub names : names_of new ≡ names_of old ++ printer_name text ∷ []
+  pub limit : new.most_items ≡ old.most_items
 
 -- where a printer does not come into a fleet that is the same, this is why
 abbrev pub IsRefusedBy : (text : List ℕ) → (old new : Fleet) → Why → Type 0
@@ -37,6 +41,11 @@ IsRefusedBy text old new why = IsSame old new × IsWhyOf (length old.profiles.it
 abbrev pub IsMade : (number : ℕ) → (held held' : Option Fleet) → Type 0
 IsMade number held held' =
     ((number ≡ 0) × (fleet : Fleet) × (held' ≡ Some fleet) × HasNone fleet) ⊎ ((number ≡ 2) × (held' ≡ held))
+
+-- what a call leaves that limits the printers to come
+abbrev pub Limits : (most : ℕ) → (held held' : Option Fleet) → Type 0
+Limits most None held' = ⊥
+Limits most (Some old) held' = held' ≡ Some (record old { most_items = Some most })
 
 -- what a call leaves that adds a printer
 pub record Adds (text : List ℕ) (number : ℕ) (old new : Fleet) (refusal refusal' : Refusal) : Type 0 where

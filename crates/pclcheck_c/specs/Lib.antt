@@ -4,5 +4,8 @@ pub mod Drawn
 pub mod Explained
 pub mod Fleets
 pub mod Handle
+pub mod Limits
 pub mod Panels
+pub mod SessionHandle
+pub mod Sessions
 pub mod Texts

@@ -1,11 +1,11 @@
 //! A fleet: printers, with the names that sentences have.
-ghost use Rattle.std.specs.Prelude.{◌≡◌, IfErr, IfOk};
+ghost use Rattle.std.specs.Prelude.{◌≡◌, Some, IfErr, IfOk};
 ghost use Rattle.device_profile.specs.Name.{printer_name};
 ghost use Rattle.pclcheck_c.specs.Checked.{asked, groups_of};
 ghost use Rattle.pclcheck_c.specs.Fleets.{Adds, HasNone, IsRefusedBy, IsWith};
 
 use crate::numbers::DONE;
-use crate::printer_texts::read_printer;
+use crate::printer_texts::read_limited;
 use crate::rows::Refusal;
 use crate::why::Why;
 use device_profile::{Profile, printer_name};
@@ -18,6 +18,9 @@ use streams::Error;
 pub struct Fleet {
     pub profiles: Vec<Profile>,
     pub names: Vec<Vec<u8>>,
+    /// How many items of a job macros may carry out on the printers that are added, where that is
+    /// limited.
+    pub most_items: Option<u64>,
 }
 
 impl Fleet {
@@ -28,7 +31,15 @@ impl Fleet {
         Fleet {
             profiles: Vec::new(alloc),
             names: Vec::new(alloc),
+            most_items: None,
         }
+    }
+
+    /// Limits the items of macros on the printers that are added from here on.
+    pub(crate) fn limit(&mut self, most: u64)
+        ensures { self.new ≡ record self.old { most_items = Some most } }
+    {
+        self.most_items = Some(most);
     }
 
     /// Adds the printer that a text describes, or tells why there is none; then the printers are
@@ -38,7 +49,7 @@ impl Fleet {
         ensures refused { IfErr result (IsRefusedBy text.now self.old self.new) }
     {
         let number = self.profiles.len() as u64 + 1;
-        let profile = match read_printer(alloc, text, number) {
+        let profile = match read_limited(alloc, text, number, self.most_items) {
             Ok(profile) => profile,
             Err(why) => return Err(why),
         };

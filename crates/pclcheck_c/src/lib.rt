@@ -1,9 +1,10 @@
 //! pclcheck for other programs: functions that C calls.
 //!
 //! A call allocates by `malloc`, and before it returns it frees all that it allocated. What a fleet
-//! holds the caller frees, by `pclcheck_fleet_free`. No call keeps a pointer behind its end, none
-//! prints, none ends the program, and nothing is kept between calls but what a fleet holds. So
-//! calls of several threads are safe whose fleets and rooms are their own.
+//! or a session holds the caller frees, by `pclcheck_fleet_free` and `pclcheck_session_free`. No
+//! call keeps a pointer behind its end, none prints, none ends the program, and nothing is kept
+//! between calls but what these hold. So calls of several threads are safe whose fleets, sessions
+//! and rooms are their own.
 //!
 //! A pointer is never null. Where a length stands behind it, so many bytes or rows lie there, and
 //! of none any pointer serves. What a call writes to overlaps nothing else that it is given.
@@ -24,7 +25,8 @@ ghost use Rattle.pclcheck_c.specs.Answers.{room_number, row_by};
 ghost use Rattle.pclcheck_c.specs.Checked.{Checks, IsSentenceOf, asked};
 ghost use Rattle.pclcheck_c.specs.Drawn.{IsPicture, MayDraw};
 ghost use Rattle.pclcheck_c.specs.Explained.{IsExplained, IsUnheard, code_asked};
-ghost use Rattle.pclcheck_c.specs.Fleets.{Adds, IsMade};
+ghost use Rattle.pclcheck_c.specs.Fleets.{Adds, IsMade, Limits};
+ghost use Rattle.pclcheck_c.specs.Sessions.{Begins, Ends, Feeds, GoesOn, OnHeld, Says};
 ghost use Rattle.pclcheck_c.specs.Texts.{IsNoted, IsPaged, IsPinned, IsWritten, MayPin};
 
 mod checking;
@@ -33,6 +35,7 @@ mod explaining;
 mod fleet;
 mod handle;
 mod job_texts;
+mod kept_session;
 mod numbers;
 mod one_text;
 mod panel_values;
@@ -40,6 +43,7 @@ mod parts;
 mod printer_texts;
 mod room;
 mod rows;
+mod session_handle;
 mod told;
 mod why;
 
@@ -48,14 +52,17 @@ use crate::drawing::drawn;
 use crate::explaining::explained;
 use crate::job_texts::{list, plain};
 use crate::printer_texts::{noted, paged, pinned};
+use crate::session_handle::begin;
 use crate::told::{hand_out, leave_refusal, leave_row};
 use device_profile::printer_name;
 pub use handle::FleetHandle;
 use meanings::EXPLANATIONS;
 pub use numbers::{
-    DONE, LONG, MEMORY, NO_FIELD, NO_PAGE, NO_PRINTER, NOT_ALLOWED, REFUSED, ROOM, STOPPED, UNKNOWN,
+    DONE, ITEMS, JUDGED, LONG, MEMORY, NO_FIELD, NO_PAGE, NO_PRINTER, NOT_ALLOWED, REFUSED, ROOM,
+    STOPPED, UNKNOWN,
 };
 pub use rows::{PanelValue, Refusal, VerdictRow};
+pub use session_handle::SessionHandle;
 use std::alloc::Global;
 
 /// The version of the library, as `pclcheck --version` has it behind the name.
@@ -119,6 +126,19 @@ pub extern "C" fn pclcheck_fleet_new(alloc: Global, fleet: &mut FleetHandle) -> 
     handle::make(alloc, fleet)
 }
 
+/// Limits how many items of a job macros may carry out on the printers that are added from here on,
+/// as `pclcheck check --most-items` does. A job that passes the limit has no verdict: checks answer
+/// `ITEMS`.
+#[unsafe(no_mangle)]
+pub extern "C" fn pclcheck_fleet_limit(alloc: Global, fleet: &mut FleetHandle, most_items: u64)
+    requires open { IsSome fleet.old.held }
+    ensures { Limits most_items fleet.old.held fleet.new.held }
+{
+    let mut held = fleet.take(alloc);
+    held.limit(most_items);
+    fleet.put(held);
+}
+
 /// Adds the printer that the text of a profile describes. The printers of a fleet count from 1, in
 /// the order in which they were added.
 ///
@@ -157,7 +177,8 @@ pub extern "C" fn pclcheck_fleet_free(alloc: Global, fleet: &mut FleetHandle)
 /// by itself, as `pclcheck check` does, or `pclcheck check --each`. By itself a printer has the
 /// number 1 in `verdict`.
 ///
-/// The answer is `DONE`, `MEMORY`, `NO_PRINTER` where the fleet has none of this number, or `LONG`.
+/// The answer is `DONE`, `MEMORY`, `NO_PRINTER` where the fleet has none of this number, `ITEMS` or
+/// `LONG`.
 #[unsafe(no_mangle)]
 pub extern "C" fn pclcheck_check(
     alloc: Global,
@@ -204,6 +225,123 @@ pub extern "C" fn pclcheck_tell(
     fleet.put(held);
     leave_row(&told, verdict);
     hand_out(&told, text, needed)
+}
+
+// ---- a job in pieces
+
+/// Begins a check of a job that comes in pieces, for all printers of a fleet or the one of this
+/// number by itself, as `pclcheck_check` does. It stands in place of none: `session` is all zero
+/// bytes, or was freed. Until then the fleet stays, and no printer is added to it.
+///
+/// The answer is `DONE`, or `MEMORY` or `NO_PRINTER`, and then there is still none.
+#[unsafe(no_mangle)]
+pub extern "C" fn pclcheck_session_new(
+    alloc: Global,
+    fleet: &mut FleetHandle,
+    printer: usize,
+    session: &mut SessionHandle,
+) -> u32
+    requires open { IsSome fleet.old.held }
+    requires none { session.old.held ≡ None }
+    ensures kept { fleet.new.held ≡ fleet.old.held }
+    ensures begun { IfSome fleet.old.held (λ held. Begins printer result held session.new.held) }
+{
+    let held = fleet.take(alloc);
+    let number = begin(alloc, &held, printer, session);
+    fleet.put(held);
+    number
+}
+
+/// Takes the next piece of the job, of any length, for the fleet with which the session began. What
+/// is kept of a job does not grow with it.
+///
+/// The answer is `DONE` while nothing is wrong; `JUDGED` once the verdict is certain, whatever
+/// follows; or `MEMORY` or `LONG`, which ends the check. After those a piece changes nothing.
+#[unsafe(no_mangle)]
+pub extern "C" fn pclcheck_session_feed(
+    alloc: Global,
+    fleet: &mut FleetHandle,
+    session: &mut SessionHandle,
+    piece: &[u8],
+) -> u32
+    requires open { IsSome fleet.old.held }
+    requires begun { IsSome session.old.held }
+    requires going { GoesOn fleet.old.held session.old.held }
+    ensures kept { fleet.new.held ≡ fleet.old.held }
+    ensures fed { OnHeld fleet.old.held session.old.held session.new.held
+        (Feeds piece.now result) }
+{
+    let held = fleet.take(alloc);
+    let mut going = session.take(alloc);
+    let number = going.feed(alloc, &held, piece);
+    session.put(going);
+    fleet.put(held);
+    number
+}
+
+/// Ends the job, and tells the verdict on what was fed, whole. A call behind that tells it again.
+///
+/// The answer is `DONE`, `MEMORY`, `ITEMS` or `LONG`.
+#[unsafe(no_mangle)]
+pub extern "C" fn pclcheck_session_end(
+    alloc: Global,
+    fleet: &mut FleetHandle,
+    session: &mut SessionHandle,
+    verdict: &mut VerdictRow,
+) -> u32
+    requires open { IsSome fleet.old.held }
+    requires begun { IsSome session.old.held }
+    requires going { GoesOn fleet.old.held session.old.held }
+    ensures kept { fleet.new.held ≡ fleet.old.held }
+    ensures ended { OnHeld fleet.old.held session.old.held session.new.held
+        (Ends result verdict.old verdict.new) }
+{
+    let held = fleet.take(alloc);
+    let mut going = session.take(alloc);
+    let number = going.end(alloc, &held, verdict);
+    session.put(going);
+    fleet.put(held);
+    number
+}
+
+/// Ends the job as `pclcheck_session_end` does, and puts the sentence on it with its line end,
+/// which begins with this name of the job. A call behind that, with more room, puts it again.
+///
+/// The answer is one of `pclcheck_session_end`, or `ROOM`.
+#[unsafe(no_mangle)]
+pub extern "C" fn pclcheck_session_tell(
+    alloc: Global,
+    fleet: &mut FleetHandle,
+    session: &mut SessionHandle,
+    name: &[u8],
+    verdict: &mut VerdictRow,
+    text: &mut [u8],
+    needed: &mut usize,
+) -> u32
+    requires open { IsSome fleet.old.held }
+    requires begun { IsSome session.old.held }
+    requires going { GoesOn fleet.old.held session.old.held }
+    ensures kept { fleet.new.held ≡ fleet.old.held }
+    ensures told { OnHeld fleet.old.held session.old.held session.new.held
+        (Says name.now (λ told. IsHanded told result text.old text.new needed.old needed.new
+        × (verdict.new ≡ row_by verdict.old told))) }
+{
+    let held = fleet.take(alloc);
+    let mut going = session.take(alloc);
+    let told = going.tell(alloc, &held, name);
+    session.put(going);
+    fleet.put(held);
+    leave_row(&told, verdict);
+    hand_out(&told, text, needed)
+}
+
+/// Frees a session, be it ended or not, and leaves none.
+#[unsafe(no_mangle)]
+pub extern "C" fn pclcheck_session_free(alloc: Global, session: &mut SessionHandle)
+    requires begun { IsSome session.old.held }
+    ensures none { session.new.held ≡ None }
+{
+    drop(session.take(alloc));
 }
 
 // ---- texts of a job

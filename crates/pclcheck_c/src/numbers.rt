@@ -1,8 +1,10 @@
 //! The numbers that calls answer. C has them behind `PCLCHECK_`.
 ghost use Rattle.std.specs.Prelude.{◌≡◌};
-ghost use Rattle.pclcheck_c.specs.Answers.{cause_number, error_number};
+ghost use Rattle.pclcheck_c.specs.Answers.{cause_number, error_number, progress_number};
 
 use device_profile::Cause;
+use preflight::KeptCheck;
+use std::alloc::Global;
 use streams::Error;
 
 /// What was asked for is done.
@@ -38,6 +40,12 @@ pub const NO_PAGE: u32 = 9;
 /// Nothing has this code.
 pub const UNKNOWN: u32 = 10;
 
+/// Macros would carry out more items of the job than the fleet allows.
+pub const ITEMS: u32 = 11;
+
+/// What a session was fed decides the verdict, whatever follows.
+pub const JUDGED: u32 = 12;
+
 /// The number of why work stopped.
 pub(crate) fn error_number(error: Error) -> u32
     ensures { result ≡ error_number error }
@@ -46,7 +54,8 @@ pub(crate) fn error_number(error: Error) -> u32
         Error::Memory => MEMORY,
         Error::Turns => LONG,
         Error::NoProfile => NO_PRINTER,
-        Error::Read | Error::Write | Error::Items => STOPPED,
+        Error::Items => ITEMS,
+        Error::Read | Error::Write => STOPPED,
     }
 }
 
@@ -62,5 +71,16 @@ pub(crate) fn cause_number(cause: Cause) -> u32
         Cause::Range => 4,
         Cause::Missing => 5,
         Cause::NoGeometry => 6,
+    }
+}
+
+/// How far a check has come.
+pub(crate) fn progress_number(check: &KeptCheck<Global>) -> u32
+    ensures { result ≡ progress_number check.now }
+{
+    match check {
+        KeptCheck::Open(_) => DONE,
+        KeptCheck::Judged(_) => JUDGED,
+        KeptCheck::Stopped(error) => error_number(*error),
     }
 }

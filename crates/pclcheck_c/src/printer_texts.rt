@@ -9,6 +9,7 @@ ghost use Rattle.renderings.specs.Pins.{pinned_rendering};
 ghost use Rattle.subcommands.specs.JobNotes.{noted, outcome_line};
 ghost use Rattle.verdict.specs.Failing.{failing};
 ghost use Rattle.pclcheck_c.specs.Answers.{IsStop, IsWhyOf, outcome_row};
+ghost use Rattle.pclcheck_c.specs.Limits.{IsPrinterOf, limited};
 ghost use Rattle.pclcheck_c.specs.Texts.{IsNoted, IsPaged, IsPinned, IsWritten, IsWrittenWithLine};
 ghost use Rattle.pclcheck_c.specs.Texts.{MayPin};
 
@@ -33,6 +34,35 @@ pub(crate) fn read_printer(alloc: Global, text: &[u8], number: u64) -> Result<Pr
     match Profile::read(alloc, text) {
         Ok(profile) => Ok(profile),
         Err(fault) => Err(Why::of_fault(number, fault)),
+    }
+}
+
+/// The same, where macros may carry out so many items of a job.
+pub(crate) fn read_limited(
+    alloc: Global,
+    text: &[u8],
+    number: u64,
+    most: Option<u64>,
+) -> Result<Profile, Why>
+    ensures printer { IfOk result (IsPrinterOf most text.now) }
+    ensures refused { IfErr result (IsWhyOf number text.now) }
+{
+    match read_printer(alloc, text, number) {
+        Ok(printer) => Ok(limited(printer, most)),
+        Err(why) => Err(why),
+    }
+}
+
+/// A printer on which macros may carry out so many items of a job.
+fn limited(mut printer: Profile, most: Option<u64>) -> Profile
+    ensures { result ≡ limited most printer }
+{
+    match most {
+        None => printer,
+        Some(count) => {
+            printer.limit_items(Some(count));
+            printer
+        }
     }
 }
 

@@ -7,5 +7,6 @@ pub mod TextInStep
 pub mod PairsInStep
 pub mod FormsInStep
 pub mod Checking
+pub mod Detached
 pub mod Loops
 pub mod Rooms

@@ -35,9 +35,9 @@ const MOST_BYTES: u64 = 1 << 62;
 /// Each item is executed on every printer as soon as the pieces decide it.
 #[derive(Drop)]
 pub struct Session<'p, A: Allocator + Copy, P: Allocator> {
-    checking: Checking<'p, A, P>,
+    pub(crate) checking: Checking<'p, A, P>,
     /// How many bytes were fed.
-    total: u64,
+    pub(crate) total: u64,
 }
 
 impl<'p, A: Allocator + Copy, P: Allocator> Model for Session<'p, A, P> {
@@ -227,7 +227,7 @@ impl<'p, A: Allocator + Copy, P: Allocator> Session<'p, A, P> {
 
     /// The verdict on what was fed, where no piece follows.
     // It only borrows the session, so that the proof of each way out need not free it.
-    fn verdict(&mut self) -> Result<Verdict, Error>
+    pub(crate) fn verdict(&mut self) -> Result<Verdict, Error>
         ensures ended { IfOk result (λ verdict. (fleet : List Printer) (bytes : List ℕ) →
             HasChecked fleet bytes self.old →
             IsJudgementOn fleet bytes verdict self.new.failing_item

@@ -1,10 +1,18 @@
 use Rattle.std.proofs.Common.{Some, ap}
-use Rattle.pclcheck_c.proofs.Known.{judged_known}
+use Rattle.pclcheck_c.proofs.Known.{judged_known, passes_known}
 use Rattle.pclcheck_c.proofs.checking.judge.Goals as goal
 
 pub returns-clause-right : goal.returns-clause-right
 returns-clause-right c =
-    let said = c.check_job_telling.ensures in
-    judged_known _ _ c.args.fleet.now c.args.job.now c.check_job_telling.result
+    let said = c.check_job_within.ensures in
+    judged_known _ _ c.args.fleet.now c.args.job.now c.check_job_within.result
     (ap (λ inner. Some inner.now) c.new-source.ensures.inner)
     said.exact said.headline said.told said.paged said.placed said.asked
+
+pub returns-clause-items : goal.returns-clause-items
+returns-clause-items c = λ failed.
+    passes_known _ _ c.args.fleet.now c.args.job.now (c.check_job_within.ensures.items failed)
+    (ap (λ inner. Some inner.now) c.new-source.ensures.inner)
+
+pub returns-clause-within : goal.returns-clause-within
+returns-clause-within c = c.check_job_within.ensures.within
