@@ -247,9 +247,13 @@ def traced_differs(page: Traced, lines: List[str], failure: str, is_proof: bool)
     """What is wrong with a page that has these marks, or nothing."""
     marks, lines = page.marks, list(lines)
     if is_proof:
-        end = max((at for at, mark in enumerate(marks) if mark.kind == "verdict"), default=0)
-        around = [mark.kind for mark in marks[:2] + marks[end:]]
-        if around[:3] != ["outline", "outline", "verdict"] or set(around[3:]) != {"letter"}:
+        # Where the job fails the sentence is told once, in red.
+        last = "sentence" if failure else "verdict"
+        end = max((at for at, mark in enumerate(marks) if mark.kind == last), default=0)
+        end += last == "sentence"
+        around = [mark.kind for mark in marks[:2] + marks[end:] if mark.kind != "verdict"]
+        is_twice = failure and any(mark.kind == "verdict" for mark in marks)
+        if around[:2] != ["outline", "outline"] or set(around[2:]) != {"letter"} or is_twice:
             return f"round the marks stand {around}"
         marks = marks[2:end]
     if failure:
