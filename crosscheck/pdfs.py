@@ -125,16 +125,18 @@ def run(program: str, *words: str) -> Tuple[int, bytes, bytes]:
     return done.returncode, done.stdout, done.stderr
 
 
-def missing_differs(program: str, job: str, profile: str, out: str, number: int,
-                    count: int) -> str:
-    """What is wrong where a job of so many pages does not have the one of this number."""
+def missing_differs(program: str, job: str, profile: str, out: str, due: List[Due]) -> str:
+    """What is wrong where the page behind the last one is asked for, or any of a job without."""
     with open(out, "wb") as file:
         file.write(b"kept")
-    told = f"{job}: there is no page {number} (pages={count})\n"
-    for options in (("--page", str(number)), *([()] if count == 0 else [])):
-        answer = run(program, "pdf", job, profile, out, *options)
-        if answer != (1, b"", told.encode()):
-            return f"{options}: {answer} for {told!r}"
+    fails = bool(due) and bool(due[-1].failure)
+    number = len(due) + 1
+    told = f"{job}: there is no page {number} (pages={len(due) - fails})\n".encode()
+    for options in (("--page", str(number)), *([] if due else [()])):
+        status, output, errors = run(program, "pdf", job, profile, out, *options)
+        is_told = errors.startswith(told) and errors.count(b"\n") == 1 + fails
+        if (status, output, is_told) != (1, b"", True):
+            return f"{options}: {(status, output, errors)} for {told!r}"
     with open(out, "rb") as file:
         return "" if file.read() == b"kept" else "OUT is not as it was"
 
@@ -144,8 +146,8 @@ def differences(program: str, folder: str, job: str, profile: str) -> Iterator[s
     status, output, errors = run(program, "pages", job, profile)
     pages, failure = due_of(output.decode("latin-1"))
     out = os.path.join(folder, "out.pdf")
-    if status == 0:
-        yield missing_differs(program, job, profile, out, len(pages) + 1, len(pages))
+    if status < 2:
+        yield missing_differs(program, job, profile, out, pages)
         if not pages:
             return
     one = max(1, len(pages))
