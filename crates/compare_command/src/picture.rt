@@ -178,7 +178,7 @@ fn drawn_pages<'p>(
     let mut pages = Vec::new(alloc);
     for pair in pairs {
         let page = drawn_page(alloc, nearness, profile, pair)?;
-        pages.push(page)?;
+        pages.push(page).map_err(AllocError::from)?;
     }
     Ok(pages)
 }
