@@ -283,7 +283,7 @@ fn printer_of<A: Allocator>(number: u64, printers: &[Profile<A>]) -> Option<&Pro
 // ---- jobs that can be read only once
 
 /// Whether a job is standard input, or one of those that can be read only once.
-fn is_read_once(telling: &Telling<'_>, job: &[u8]) -> bool
+pub fn is_read_once(telling: &Telling<'_>, job: &[u8]) -> bool
     ensures { result ≡ is_read_once (told_by telling.now) job.now }
 {
     is_input(job) || is_among(telling.read_once, job)
