@@ -7,8 +7,8 @@ the first profile of its fleet `pdf` writes all pages, with --proof and without,
 Each document is read by its table (`pdf_objects.py`): every object stands where that says, and
 nothing else. Each page has the marks of its lines at their places within 1/7200 inch and no other
 (`pdf_marks.py`), and its label tells its number and how it is printed; the last one the failure of
-a job that fails, whose line is written, in a sentence. Of a page that the job does not have, or of a
-job without a page, there is no document: standard error tells it, and OUT is as it was.
+a job that fails, whose line is written, in a sentence. Of a page that the job does not have, or of
+a job without a page, there is no document: standard error tells it, and OUT is as it was.
 
 Where these programs are there, qpdf has to find nothing wrong with a document, and the marks that
 mutool sees are compared with the lines, too (`pdf_traces.py`); which are not there is told first.

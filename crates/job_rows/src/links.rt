@@ -23,7 +23,8 @@ pub fn push_document_path<A: Allocator>(
     path: &mut Vec<u8, A>,
     document: &JobDocument<'_>,
 ) -> Result<(), AllocError>
-    ensures { OnOk result (path.new.items ≡ path.old.items ++ document_path (told_of document.now)) }
+    ensures { OnOk result
+        (path.new.items ≡ path.old.items ++ document_path (told_of document.now)) }
 {
     path.extend_from_slice(document.folder.as_bytes())?;
     path.extend_from_slice(b"/")?;

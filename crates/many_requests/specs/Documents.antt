@@ -1,6 +1,6 @@
 -- What the documents of jobs that are checked leave, each a file in a folder.
-use Rattle.std.specs.Prelude.{◌≡◌, ◌⊎◌, ◌&&◌, ◌||◌, ◌∷◌, ◌++◌, ℕ, Bool, true, false, List, [], Option, None, Some, codes}
-use Rattle.std.specs.Prelude.{get_or, if◌then◌else◌, IsFalse, IsTrue}
+use Rattle.std.specs.Prelude.{◌≡◌, ◌⊎◌, ◌&&◌, ◌∷◌, ◌++◌, ℕ, Bool, true, false, List, [], Option, None, Some, codes}
+use Rattle.std.specs.Prelude.{get_or, if◌then◌else◌, IsFalse}
 use Rattle.std.specs.List.{list_any}
 use Rattle.std.specs.Str.{bytes_eq}
 use Rattle.file_requests.specs.JobRequests.{LeavesPdfAt}

@@ -51,7 +51,8 @@ fn proof() -> PdfAsked<'static> {
     }
 }
 
-/// Runs a subcommand, and tells how it ended. One that reads its job twice has it from `first`, too.
+/// Runs a subcommand, and tells how it ended. One that reads its job twice has it from `first`,
+/// too.
 fn status_of<H: Allocator + Copy, F: Source, J: Open, W: Create, O: Outlet, E: Outlet>(
     command: Command,
     heap: H,

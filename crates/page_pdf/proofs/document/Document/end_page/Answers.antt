@@ -15,7 +15,8 @@ returns g c =
     let words_are : c.as_slice.result.now ≡ end_words c.args.end =
     built c.new-words.result.items c.push_end_words.new.text.items c.as_slice.result.now (end_words c.args.end)
     c.new-words.ensures.items c.in_ok-push_end_words.ensures c.as_slice.ensures.value in
-    then_written c.close_page.result (page_ready sheet c.args.self.now) (page_closed sheet false (end_words c.args.end)) c.args.text.now.items
+    then_written c.close_page.result (page_ready sheet c.args.self.now) (page_closed sheet false (end_words c.args.end))
+    c.args.text.now.items
     mid new between c.close_page.new.self c.in_ok-make_ready.ensures
     (subst (λ (words : List ℕ). OnOk c.close_page.result (HasWritten (page_closed sheet false words between) mid new c.close_page.new.self))
     words_are c.close_page.ensures)
