@@ -1,6 +1,6 @@
 -- What the documents of jobs that are checked leave, each a file in a folder.
-use Rattle.std.specs.Prelude.{◌≡◌, ◌⊎◌, ◌&&◌, ◌∷◌, ◌++◌, ℕ, Bool, true, false, List, [], Option, None, Some, codes}
-use Rattle.std.specs.Prelude.{get_or, if◌then◌else◌, IsFalse}
+use Rattle.std.specs.Prelude.{◌≡◌, ◌⊎◌, ◌&&◌, ◌||◌, ◌∷◌, ◌++◌, ◌-◌, ℕ, Bool, true, false, List, []}
+use Rattle.std.specs.Prelude.{Option, None, Some, codes, drop, get_or, if◌then◌else◌, length, nat_lt, IsFalse}
 use Rattle.std.specs.List.{list_any}
 use Rattle.std.specs.Str.{bytes_eq}
 use Rattle.file_requests.specs.JobRequests.{LeavesPdfAt}
@@ -30,15 +30,24 @@ has_same_part part job = bytes_eq (last_part job) part
 abbrev pub is_named_in : (jobs : List (List ℕ)) → (part : List ℕ) → Bool
 is_named_in jobs part = list_any (has_same_part part) jobs
 
--- the first job whose name one behind it has, too
+-- it may be the document of another
+abbrev pub ends_in_pdf : (job : List ℕ) → Bool
+ends_in_pdf job =
+    if nat_lt (length job) 4 then false else bytes_eq (drop (length job - 4) job) (codes ".pdf")
+
+-- a document would take its place, or that of its document, where these stand behind it
+abbrev pub is_taken : (job : List ℕ) → (jobs : List (List ℕ)) → Bool
+is_taken job jobs = ends_in_pdf job || is_named_in jobs (last_part job)
+
+-- the first such job
 abbrev pub same_named : List (List ℕ) → Option (List ℕ)
 same_named [] = None
-same_named (job ∷ jobs) = if is_named_in jobs (last_part job) then Some job else same_named jobs
+same_named (job ∷ jobs) = if is_taken job jobs then Some job else same_named jobs
 
--- the documents of both would be one file
 abbrev pub same_line : (job : List ℕ) → List ℕ
 same_line job =
-    codes "error: " ++ named_first job ++ codes "another job has this name, and --pdf writes one file for both\n"
+    codes "error: " ++ named_first job
+    ++ codes "with --pdf no two jobs have one name, and none ends in .pdf: each gets a file NAME.pdf\n"
 
 -- so it is refused, as standard error tells
 abbrev pub RefusesName : (jobs : List (List ℕ)) → Status → OutletState → OutletState → Type 0

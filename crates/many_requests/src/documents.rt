@@ -9,7 +9,8 @@ ghost use Rattle.many_requests.specs.Documents.{LosesDocument, RefusesName, Writ
 ghost use Rattle.many_requests.specs.Documents.{WritesDocument};
 ghost use Rattle.many_requests.specs.Documents.{WritesDocuments, WritesIfSound, WritesPdf};
 ghost use Rattle.many_requests.specs.Documents.{cause_of, cause_part, document_text, end_with};
-ghost use Rattle.many_requests.specs.Documents.{has_lines, has_same_part, is_named_in, is_written};
+ghost use Rattle.many_requests.specs.Documents.{ends_in_pdf, has_lines, has_same_part, is_named_in};
+ghost use Rattle.many_requests.specs.Documents.{is_taken, is_written};
 ghost use Rattle.many_requests.specs.Documents.{lost_line, same_line, same_named};
 ghost use Rattle.requests.specs.Status.{error_words};
 
@@ -27,7 +28,8 @@ use streams::{Error, FilesUsed, Outlet, write_text};
 
 // ---- names
 
-/// Refuses jobs of one name, whose documents would be one file: of that standard error is told.
+/// Refuses jobs of one name, whose documents would be one file, and a job that may be such a file:
+/// of that standard error is told.
 pub(crate) fn refuse_names<E: Outlet>(
     alloc: Global,
     jobs: &[&[u8]],
@@ -45,18 +47,36 @@ pub(crate) fn refuse_names<E: Outlet>(
     }
 }
 
-/// The first job whose name one behind it has, too.
+/// The first job that is refused so.
 fn same_named<'n>(jobs: &[&'n [u8]]) -> Option<&'n [u8]>
     ensures { option_map (λ job. job.now) result ≡ same_named (map (λ job. job.now) jobs.now) }
 {
     let mut rest = jobs;
     while let Some((job, behind)) = cut_job(rest) {
-        if is_named_in(behind, last_part(job)) {
+        if is_taken(job, behind) {
             return Some(job);
         }
         rest = behind;
     }
     None
+}
+
+/// Whether a document would take the place of a job, or that of its document, where these stand
+/// behind it.
+fn is_taken(job: &[u8], behind: &[&[u8]]) -> bool
+    ensures { result ≡ is_taken job.now (map (λ job. job.now) behind.now) }
+{
+    ends_in_pdf(job) || is_named_in(behind, last_part(job))
+}
+
+/// Whether a job may be the document of another.
+fn ends_in_pdf(job: &[u8]) -> bool
+    ensures { result ≡ ends_in_pdf job.now }
+{
+    if job.len() < 4 {
+        return false;
+    }
+    &job[job.len() - 4..] == b".pdf".as_slice()
 }
 
 /// The first job, and those behind it.
@@ -106,7 +126,9 @@ fn same_line(alloc: Global, job: &[u8]) -> Result<Vec<u8>, AllocError>
     let mut line = Vec::new(alloc);
     line.extend_from_slice(b"error: ")?;
     push_named_first(alloc, &mut line, job)?;
-    line.extend_from_slice(b"another job has this name, and --pdf writes one file for both\n")?;
+    line.extend_from_slice(
+        b"with --pdf no two jobs have one name, and none ends in .pdf: each gets a file NAME.pdf\n",
+    )?;
     Ok(line)
 }
 
