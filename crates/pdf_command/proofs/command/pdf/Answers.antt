@@ -72,6 +72,9 @@ returns-in-Err-chosen_panel-clause-choice g c =
     choice_told c.refuse_choice-status.result c.in-Ok.printer.profile c.in-Err-chosen_panel.choice named _ _ _
     c.in-Ok.ensures.printer.2.0 (sym c.in-Err-chosen_panel.ensures.value) c.refuse_choice-status.ensures.choice
 
+pub returns-in-Err-chosen_panel-clause-quiet : goal.returns-in-Err-chosen_panel-clause-quiet
+returns-in-Err-chosen_panel-clause-quiet g c = λ choice there. c.refuse_choice-status.ensures.quiet choice
+
 -- ---- it ends before the document
 
 pub returns-in-Some-clause-ends : goal.returns-in-Some-clause-ends
