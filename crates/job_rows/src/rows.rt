@@ -26,7 +26,7 @@ pub struct RowParts<'d, A: Allocator> {
     pub document: Option<JobDocument<'d>>,
 }
 
-impl<A: Allocator> Model for RowParts<'_, A> {
+impl<'d, A: Allocator> Model for RowParts<'d, A> {
     ghost use Rattle.std.specs.Prelude.{option_map};
     ghost use Rattle.job_rows.specs.Kept.{kept_part};
     ghost use Rattle.job_rows.specs.Links.{told_of};
