@@ -14,6 +14,7 @@ use Rattle.subcommands.proofs.Leaves.{Stays-none}
 use Rattle.subcommands.specs.JobTexts.{LeavesOut}
 use Rattle.pdf_command.proofs.Leaving.{before_answers, before_left, before_refuses, before_writes, left_by, no_panel, no_printer}
 use Rattle.pdf_command.proofs.Leaving.{pages_left, pages_refuse}
+use Rattle.pdf_command.specs.declared.command.PdfEnd.{PdfEnd}
 use Rattle.pdf_command.specs.Pdf.{Around, EndsBefore, HasPage, first_wanted, plan_of, search_of}
 use Rattle.pdf_command.proofs.command.pdf.Goals as goal
 
@@ -194,6 +195,7 @@ returns-clause-ends g c =
     let texts = g.T.ProfileTexts.failed c.read_printer.new.texts in
     let plan = λ (name : List ℕ). plan_of asked.selection asked.is_proof name group in
     let ends = c.write_pages-status.ensures.ends in
+    let over : PdfEnd = record { status = status; lacks_page = false } in
     let around : Around = record {
       first = before;
       first' = after;
@@ -216,7 +218,7 @@ returns-clause-ends g c =
     subst (λ outlet. Stays (g.E.Outlet.state c.args.stderr.now) (g.E.Outlet.state outlet)) (sym (c.in_default.ensures.quiet refl))
     (Stays-none _) in
     record {
-      left = left_by by asked.setting.choices.now asked.selection asked.is_proof asked.job.now around status _
+      left = left_by by asked.setting.choices.now asked.selection asked.is_proof asked.job.now around status over
           (pages_refuse status c.write_pages-status.ensures.end)
           (record {
             printer = printer;
