@@ -15,7 +15,7 @@ from pathlib import Path
 
 from prover import Crate, Said
 
-HEAD = re.compile(r"(?m)^( *)(?:pub(?:\([^)]*\))? )?(?:const )?fn (\w+)")
+HEAD = re.compile(r"(?m)^( *)(?:pub(?:\([^)]*\))? )?(?:const )?(?:extern \"C\" )?fn (\w+)")
 
 
 # The end of a function's head: its body follows, which may be empty, or it has none.

@@ -28,6 +28,7 @@ trap 'exit 1' HUP INT TERM
 mkdir "$folder/bin" "$folder/home"
 ln -s "$program" "$folder/bin/pclcheck"
 cp -r examples "$folder/examples"
+mkdir "$folder/examples/kept"
 PATH=$folder/bin:$PATH
 HOME=$folder/home
 export PATH HOME root
@@ -59,6 +60,16 @@ pclcheck check -f shop.fleet let|letter.pcl
 pclcheck check -f shop.fleet letter.pcl @|
 pclcheck check --fleet shop.fleet letter.pcl @|
 pclcheck check --printer=@A letter.pcl @|
+pclcheck compare --any|--any-order
+pclcheck compare --format w|words
+pclcheck compare let|letter.pcl
+pclcheck compare letter.pcl labels.pcl @|@A
+pclcheck compare --within 0.1mm --picture out.svg let|letter.pcl
+pclcheck compare --within 0.1mm letter.pcl labels.pcl @|@A
+pclcheck compare --golden ke|kept/
+pclcheck compare --golden kept -p fro|front_desk.profile
+pclcheck compare --golden kept -p @A invoice.pcl labels.pcl let|letter.pcl
+pclcheck compare --golden kept -p @A invoice.pcl labels.pcl @|
 pclcheck pages letter.pcl @|@A
 pclcheck plain let|letter.pcl
 pclcheck pin --panel ori|orientation=

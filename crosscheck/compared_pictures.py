@@ -20,8 +20,6 @@ from typing import List, Optional, Tuple
 sys.dont_write_bytecode = True
 
 import compares                                                    # noqa: E402
-import jobs                                                        # noqa: E402
-import oracle                                                      # noqa: E402
 from comparison_drawing import DifferingPage, document, paper, picture  # noqa: E402
 from page_differences import Manner, Page, differences, pages_of   # noqa: E402
 from printer_profile import Profile                                # noqa: E402
@@ -92,20 +90,17 @@ def main(program: str, count: int, seed: str) -> int:
     done = differ = number = 0
     while done < count:
         random = Random(f"{seed}/edit/{number}")
-        case = jobs.random_case(seed, number)
+        pair = compares.pair_of(random, seed, number)
         number += 1
-        profiles, error = oracle.read_profiles(case.texts()[:1])
-        if error or not profiles:
+        if pair is None:
             continue
         with tempfile.TemporaryDirectory() as name:
             tried = compares.Tried(program, Path(name))
-            (tried.folder / "p.profile").write_bytes(compares.named(case.texts()[0], "printer"))
-            job = compares.far_enough(case.job, profiles[0])
-            (tried.folder / "old").write_bytes(job)
-            (tried.folder / "new").write_bytes(random.choice(compares.EDITS)(random, job))
+            for file, data in (("p.profile", pair.texts[0]), ("old", pair.old), ("new", pair.new)):
+                (tried.folder / file).write_bytes(data)
             words, manner = random.choice(MANNERS)
-            if differs(tried, profiles[0], "p.profile", words, manner):
-                print(f"  seed {seed}, job {number - 1}: {case.job!r}")
+            if differs(tried, pair.profiles[0], "p.profile", words, manner):
+                print(f"  seed {seed}, pair {number - 1}: {pair.old!r} and {pair.new!r}")
                 differ += 1
             done += 1
     print(f"{done} compared, {differ} differ")

@@ -25,7 +25,8 @@ STYLE = """\
 .differs { mix-blend-mode: multiply; }
 .differs text, .differs path, .differs .area { stroke: currentColor; stroke-opacity: .2;
   stroke-width: 6px; stroke-linejoin: round; vector-effect: non-scaling-stroke; }
-.differs .area[fill="white"] { fill: none; stroke-opacity: 1; stroke-width: 2px; }
+.differs path { stroke-width: 1px; }
+.differs .area[fill="white"] { fill: white; stroke-opacity: 1; stroke-width: 2px; }
 .differs .line, .differs .box { stroke: currentColor; }
 .old .area[fill^="url"] { filter: url(#old); }
 .new .area[fill^="url"] { filter: url(#new); }

@@ -15,6 +15,7 @@ from typing import List, Tuple
 
 sys.dont_write_bytecode = True
 
+import hostile_compares                                            # noqa: E402
 import hostile_documents                                           # noqa: E402
 import hostile_limits                                              # noqa: E402
 import hostile_many                                                # noqa: E402
@@ -28,7 +29,7 @@ from hostile_base import Shim, Tries                               # noqa: E402
 from hostile_jobs import check_jobs                                # noqa: E402
 
 PARTS = (hostile_reads, hostile_writes, hostile_outs, hostile_words, hostile_limits, hostile_many,
-         hostile_documents, hostile_pdfs, hostile_profiles)
+         hostile_documents, hostile_pdfs, hostile_profiles, hostile_compares)
 
 
 def try_part(task: Tuple[str, int]) -> Tuple[List[str], int, int]:

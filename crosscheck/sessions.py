@@ -3,9 +3,10 @@
     python3 crosscheck/sessions.py PROGRAM
 
 A session is a line that begins with `$ ` and the lines behind it, up to an empty line or the next
-one: what is then written on standard output and standard error. A stored run also tells the exit
-status and keeps the two streams apart. Prints a line for each that differs, and at last
-`N run, M differ`. The exit status is 0 where M is 0, else 1.
+one: what is then written on standard output and standard error. Those of a document run in one copy
+of the examples. A stored run also tells the exit status and keeps the two streams apart. Prints a
+line for each that differs, and at last `N run, M differ`. The exit status is 0 where M is 0, else
+1.
 """
 
 import re
@@ -13,6 +14,7 @@ import shutil
 import subprocess
 import sys
 import tempfile
+from contextlib import contextmanager
 from pathlib import Path
 from typing import Iterator, List, Tuple
 
@@ -120,6 +122,19 @@ FILES = {"short.pcl": b"\x1bEA\x1b&l2A\x0c", "faulty.pcl": b"A\x1bQ", "empty.pcl
          "macros.pcl": b"\x1b&f1Y\x1b&f0X\r\r\r\x1b&f1X\x1b&f2X\x1b&f3X"}
 
 
+@contextmanager
+def examples(program: Path) -> Iterator[Path]:
+    """A copy of the examples with the program, in which no other document has left files."""
+    with tempfile.TemporaryDirectory(prefix="sessions-") as name:
+        folder = Path(name) / "examples"
+        shutil.copytree(ROOT / "examples", folder)
+        shutil.copytree(ROOT / "docs" / "pictures", Path(name) / "docs" / "pictures")
+        (folder / "pclcheck").symlink_to(program)
+        for file, text in FILES.items():
+            (folder / file).write_bytes(text)
+        yield folder
+
+
 def sessions(document: Path) -> Iterator[Tuple[str, str]]:
     """The commands of a document, each with what it writes, without the indent of the block. In a
     block between fences an empty line may stand in what is written."""
@@ -161,18 +176,13 @@ def main() -> int:
         return 2
     program = Path(sys.argv[1]).resolve()
     differing, count = [], 0
-    with tempfile.TemporaryDirectory(prefix="sessions-") as name:
-        folder = Path(name) / "examples"
-        shutil.copytree(ROOT / "examples", folder)
-        shutil.copytree(ROOT / "docs" / "pictures", Path(name) / "docs" / "pictures")
-        (folder / "pclcheck").symlink_to(program)
-        for file, text in FILES.items():
-            (folder / file).write_bytes(text)
-        for document in DOCUMENTS:
+    for document in DOCUMENTS:
+        with examples(program) as folder:
             for session in sessions(document):
                 if not SETTING.match(session[0]):
                     differing += shown(session, folder)
                     count += 1
+    with examples(program) as folder:
         for row in STORED:
             differing += stored(row, folder)
             count += 1

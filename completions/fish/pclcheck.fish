@@ -47,6 +47,12 @@ function __pclcheck_at_profile
     and test (count (commandline -opc)) -gt 2
 end
 
+# In a comparison with a folder of jobs each word is a job, and no sample.
+function __pclcheck_at_compared
+    __pclcheck_at compare
+    and not string match -q -- '--golden*' (commandline -opc)
+end
+
 function __pclcheck_models
     pclcheck profile list 2>/dev/null | string replace -r '^([^:]*): (.*); papers:.*' '$1\t$2'
 end
@@ -158,7 +164,7 @@ complete -c pclcheck -n __pclcheck_at_profile -a '(__pclcheck_samples)' -d sampl
 complete -c pclcheck -n '__pclcheck_at survey' -l format -x -a 'line words json' \
     -d 'Lines for people, or with json objects; line and words are the same'
 
-complete -c pclcheck -n '__pclcheck_at compare' -a '(__pclcheck_samples)' -d sample
+complete -c pclcheck -n __pclcheck_at_compared -a '(__pclcheck_samples)' -d sample
 complete -c pclcheck -n '__pclcheck_at compare' -s p -l printer -x -a '(__pclcheck_profiles)' \
     -d 'A printer, behind those of PROFILE. May come often'
 complete -c pclcheck -n '__pclcheck_at compare' -s f -l fleet -r \
@@ -171,7 +177,7 @@ complete -c pclcheck -n '__pclcheck_at compare' -l all \
     -d 'Tells all differences of the first printer that has one'
 complete -c pclcheck -n '__pclcheck_at compare' -l most -x \
     -d 'Tells so many of them at most; without it 1000'
-complete -c pclcheck -n '__pclcheck_at compare' -l golden -r \
+complete -c pclcheck -n '__pclcheck_at compare' -l golden -x -a '(__fish_complete_directories)' \
     -d 'Compares each word with the file of its name in DIR; printers come by -p and -f'
 complete -c pclcheck -n '__pclcheck_at compare' -l picture -r \
     -d 'Draws the first page that differs into OUT, with --all each of them'

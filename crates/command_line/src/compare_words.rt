@@ -1,6 +1,6 @@
 //! The words of the command `compare`.
-ghost use Rattle.std.specs.Prelude.{IfOk, IfSome};
-ghost use Rattle.requests.specs.Comparisons.{NamesCompared};
+ghost use Rattle.std.specs.Prelude.{◌≢◌, ◌++◌, [], IfOk, IfSome, IsFalse};
+ghost use Rattle.requests.specs.Comparisons.{NamesCompared, NamesJobs};
 ghost use Rattle.requests.specs.Words.{NamesSome};
 
 use crate::form_words::{SURVEY_FORMS, form_asked};
@@ -186,23 +186,10 @@ fn read_pair<'a>(
     let Some((old_job, new_job)) = both_texts(found, "OLD", "NEW") else {
         return Ok(None);
     };
-    let (nearness, extent) = (nearness_of(found)?, extent_of(found)?);
-    let picture = picture_of(found)?;
     let mut printers = texts_of(alloc, found, "PROFILE")?;
     printers.extend_from_slice(found.get_strs("PRINTER").unwrap_or(&[]))?;
-    let fleets = texts_of(alloc, found, "FLEET")?;
-    if printers.is_empty() && fleets.is_empty() {
-        return Ok(None);
-    }
-    Ok(Some(CompareWords {
-        jobs: ComparedJobs::Pair { old_job, new_job },
-        printers,
-        fleets,
-        form: form_asked(found).unwrap_or(usual),
-        nearness,
-        extent,
-        picture,
-    }))
+    let jobs = ComparedJobs::Pair { old_job, new_job };
+    read_beside(alloc, usual, found, jobs, printers)
 }
 
 /// The path of the picture. Standard output, which has the lines, is none.
@@ -223,25 +210,55 @@ fn read_golden<'a>(
 ) -> Result<Option<CompareWords<'a>>, ChoiceFault<'a>>
     ensures { IfOk result (λ words. IfSome words NamesCompared) }
 {
-    let (nearness, extent) = (nearness_of(found)?, extent_of(found)?);
     let jobs = words_of(alloc, found)?;
-    let printers = texts_of(alloc, found, "PRINTER")?;
-    let fleets = texts_of(alloc, found, "FLEET")?;
-    if printers.is_empty() && fleets.is_empty() {
-        return Err(ChoiceFault::NoPrinter);
-    }
     if jobs.is_empty() {
         return Ok(None);
     }
+    let printers = texts_of(alloc, found, "PRINTER")?;
+    let jobs = ComparedJobs::Golden { folder, jobs };
+    let words = read_beside(alloc, usual, found, jobs, printers)?;
+    match words {
+        Some(words) => Ok(Some(words)),
+        None => Err(ChoiceFault::NoPrinter),
+    }
+}
+
+/// What words name beside these jobs and these printers; nothing where they name no printer.
+fn read_beside<'a>(
+    alloc: Global,
+    usual: Form,
+    found: &ArgMatches<'a>,
+    jobs: ComparedJobs<'a>,
+    printers: Vec<&'a str>,
+) -> Result<Option<CompareWords<'a>>, ChoiceFault<'a>>
+    requires { NamesJobs jobs }
+    ensures { IfOk result (λ words. IfSome words NamesCompared) }
+{
+    let (nearness, extent) = (nearness_of(found)?, extent_of(found)?);
+    let picture = picture_of(found)?;
+    let fleets = texts_of(alloc, found, "FLEET")?;
+    if are_none(printers.as_slice(), fleets.as_slice()) {
+        return Ok(None);
+    }
     Ok(Some(CompareWords {
-        jobs: ComparedJobs::Golden { folder, jobs },
+        jobs,
         printers,
         fleets,
         form: form_asked(found).unwrap_or(usual),
         nearness,
         extent,
-        picture: None,
+        picture,
     }))
+}
+
+/// Whether words name no printer, and no text that names some.
+fn are_none(printers: &[&str], fleets: &[&str]) -> bool
+    ensures { IsFalse result → printers.now ++ fleets.now ≢ [] }
+{
+    match printers {
+        [] => fleets.is_empty(),
+        [_, ..] => false,
+    }
 }
 
 /// All words, in their order.

@@ -1,11 +1,11 @@
 //! The fixed parts of pictures and of documents: their style, and what stands round their pages.
 //!
 //! A group of marks has the color of its job, and its marks take it in place of black; a rectangle
-//! that is white has an outline, since it would not be seen, and the lines of one that is hatched
-//! get the color by a filter. Each mark has a halo, which is as wide at each size at which a page
-//! is looked at, so that the eye finds a mark that is moved by a dot. Where marks of both jobs lie
-//! one upon the other it is dark. Nothing is loaded: the policy in the head of a document forbids
-//! it.
+//! that is white covers what its job has below it, and has an outline, since it would not be seen,
+//! and the lines of one that is hatched get the color by a filter. Each mark has a halo, which is
+//! as wide at each size at which a page is looked at, so that the eye finds a mark that is moved by
+//! a dot; that of a row is narrow, since rows lie close. Where marks of both jobs lie one upon the
+//! other it is dark. Nothing is loaded: the policy in the head of a document forbids it.
 
 ghost use Rattle.std.specs.Prelude.{◌≡◌, ◌++◌, OnOk};
 ghost use Rattle.comparison_picture.specs.FixedParts.{
@@ -26,7 +26,8 @@ pub(crate) const STYLE: &str = ".old { color: #d40000; }
 .differs { mix-blend-mode: multiply; }
 .differs text, .differs path, .differs .area { stroke: currentColor; stroke-opacity: .2;
   stroke-width: 6px; stroke-linejoin: round; vector-effect: non-scaling-stroke; }
-.differs .area[fill=\"white\"] { fill: none; stroke-opacity: 1; stroke-width: 2px; }
+.differs path { stroke-width: 1px; }
+.differs .area[fill=\"white\"] { fill: white; stroke-opacity: 1; stroke-width: 2px; }
 .differs .line, .differs .box { stroke: currentColor; }
 .old .area[fill^=\"url\"] { filter: url(#old); }
 .new .area[fill^=\"url\"] { filter: url(#new); }
