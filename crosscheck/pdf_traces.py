@@ -124,6 +124,11 @@ def drawn_in(lines: xml.Element) -> str:
     return next((name for name, one in PATTERNS.items() if one == drawn), "?")
 
 
+def is_from_corner(drawn: xml.Element) -> bool:
+    """Whether the squares of a pattern are counted from the upper left corner of the page."""
+    return all(abs(place / 384 - round(place / 384)) * 384 < 1 for place in matrix_of(drawn)[4:])
+
+
 def clipped(area: xml.Element, inner: List[xml.Element]) -> Mark:
     """What is drawn within an area: the verdict, or a pattern, as a tile or square by square."""
     if [one.tag for one in inner] == ["fill_text"]:
@@ -133,6 +138,7 @@ def clipped(area: xml.Element, inner: List[xml.Element]) -> Mark:
         square = tile.get("view"), tile.get("xstep"), tile.get("ystep")
         holds(square == ("0 0 384 384", "384", "384"), "the square of a pattern")
         inner = list(tile)
+    holds(all(is_from_corner(one) for one in inner if one.tag == "stroke_path"), "a pattern's place")
     patterns = {drawn_in(one) if one.tag == "stroke_path" else "?" for one in inner}
     holds(len(patterns) == 1, f"in an area {patterns}")
     return Mark("rect", (patterns.pop(), "1"), box_of(area))
