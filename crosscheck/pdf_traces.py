@@ -138,7 +138,8 @@ def clipped(area: xml.Element, inner: List[xml.Element]) -> Mark:
         square = tile.get("view"), tile.get("xstep"), tile.get("ystep")
         holds(square == ("0 0 384 384", "384", "384"), "the square of a pattern")
         inner = list(tile)
-    holds(all(is_from_corner(one) for one in inner if one.tag == "stroke_path"), "a pattern's place")
+    lines = [one for one in inner if one.tag == "stroke_path"]
+    holds(all(is_from_corner(one) for one in lines), "the place of a pattern")
     patterns = {drawn_in(one) if one.tag == "stroke_path" else "?" for one in inner}
     holds(len(patterns) == 1, f"in an area {patterns}")
     return Mark("rect", (patterns.pop(), "1"), box_of(area))
