@@ -79,7 +79,7 @@ class Reader:
     def unit(self, x: Fraction, y: Fraction, matrix: Optional[Matrix] = None) -> Point:
         """A place in 1/7200 inch from the upper left corner."""
         at_x, at_y = moved(matrix or self.state.matrix, x, y)
-        return 100 * at_x, 100 * (self.page.height - at_y)
+        return 100 * at_x, -100 * at_y
 
     def numbers(self, count: int) -> List[Fraction]:
         holds(len(self.words) >= count, f"{count} numbers before {self.at}")
@@ -246,7 +246,8 @@ class Reader:
             self.marks.append(Mark(kind, (self.font, code, self.render), places))
 
     def form(self) -> None:
-        holds(self.name() == "V" and self.state.matrix == IDENTITY, "a form")
+        foot = (*IDENTITY[:5], -self.page.height)
+        holds(self.name() == "V" and self.state.matrix == foot, "a form")
         self.marks.append(Mark("verdict", (), ()))
 
 
@@ -349,10 +350,14 @@ def page_differs(page: Page, lines: List[str], failure: str, is_proof: bool) -> 
     except (Unsound, ValueError, IndexError) as error:
         return f"no page: {error!r}"
     if is_proof:
-        around = [mark.kind for mark in marks[:2] + marks[-2:]]
-        if around != ["outline", "outline", "verdict", "letter"]:
+        # Where the job fails the sentence is told once, in red.
+        foot = ["letter"] if failure else ["verdict", "letter"]
+        around = [mark.kind for mark in marks[:2] + marks[-len(foot):]]
+        if around != ["outline", "outline", *foot]:
             return f"round the marks stand {around}"
-        marks = marks[2:-2]
+        marks = marks[2:-len(foot)]
+        if any(mark.kind == "verdict" for mark in marks):
+            return "a verdict"
     if failure:
         kinds = [mark.kind for mark in marks[-2:]]
         if kinds != ["cross", "sentence"]:

@@ -15,7 +15,7 @@ END = re.compile(rb"trailer\n<</Root (\d+) 0 R/Info (\d+) 0 R/Size (\d+)>>\n"
                  rb"startxref\n(\d+)\n%%EOF\n\Z")
 ENTRY = re.compile(rb"(\d{10}) (\d{5}) ([fn]) \n")
 STREAM = re.compile(rb"<<(.*?)/Length (\d+)( 0 R)?>>\nstream\n(.*)\nendstream\Z", re.DOTALL)
-PAGE = re.compile(rb"<</Type/Page/Parent 2 0 R/Resources 5 0 R/MediaBox\[0 0 ([\d.]+) ([\d.]+)\]"
+PAGE = re.compile(rb"<</Type/Page/Parent 2 0 R/Resources 5 0 R/MediaBox\[0 -([\d.]+) ([\d.]+) 0\]"
                   rb"/Contents (\d+) 0 R>>\Z")
 CATALOG = re.compile(rb"<</Type/Catalog/Pages (\d+) 0 R/PageLabels<</Nums\[(.*)\]>>>>\Z")
 PAGES = re.compile(rb"<</Type/Pages/Count (\d+)/Kids\[(.*)\]>>\Z")
@@ -29,7 +29,9 @@ class Unsound(Exception):
 
 @dataclass
 class Page:
-    """A page: its sides in points, its label, and what marks it."""
+    """A page: its sides in points, its label, and what marks it.
+
+    The zero of its box is its upper left corner."""
 
     width: Fraction
     height: Fraction
@@ -124,7 +126,7 @@ def document_of(data: bytes) -> Document:
     pages = []
     for (kid,), (_, label) in zip(kids, labels):
         page = found(PAGE, objects[kid], f"page {kid}")
-        pages.append(Page(Fraction(page[1].decode()), Fraction(page[2].decode()),
+        pages.append(Page(Fraction(page[2].decode()), Fraction(page[1].decode()),
                           found(LABEL, objects[label], f"label {label}")[1].decode(),
                           content_of(objects, int(page[3]))))
     holds(len(objects) == 22 + 4 * len(pages), f"{len(objects)} objects of {len(pages)} pages")

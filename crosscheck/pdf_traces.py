@@ -124,6 +124,11 @@ def drawn_in(lines: xml.Element) -> str:
     return next((name for name, one in PATTERNS.items() if one == drawn), "?")
 
 
+def is_from_corner(drawn: xml.Element) -> bool:
+    """Whether the squares of a pattern are counted from the upper left corner of the page."""
+    return all(abs(place / 384 - round(place / 384)) * 384 < 1 for place in matrix_of(drawn)[4:])
+
+
 def clipped(area: xml.Element, inner: List[xml.Element]) -> Mark:
     """What is drawn within an area: the verdict, or a pattern, as a tile or square by square."""
     if [one.tag for one in inner] == ["fill_text"]:
@@ -133,6 +138,8 @@ def clipped(area: xml.Element, inner: List[xml.Element]) -> Mark:
         square = tile.get("view"), tile.get("xstep"), tile.get("ystep")
         holds(square == ("0 0 384 384", "384", "384"), "the square of a pattern")
         inner = list(tile)
+    lines = [one for one in inner if one.tag == "stroke_path"]
+    holds(all(is_from_corner(one) for one in lines), "the place of a pattern")
     patterns = {drawn_in(one) if one.tag == "stroke_path" else "?" for one in inner}
     holds(len(patterns) == 1, f"in an area {patterns}")
     return Mark("rect", (patterns.pop(), "1"), box_of(area))
@@ -247,9 +254,13 @@ def traced_differs(page: Traced, lines: List[str], failure: str, is_proof: bool)
     """What is wrong with a page that has these marks, or nothing."""
     marks, lines = page.marks, list(lines)
     if is_proof:
-        end = max((at for at, mark in enumerate(marks) if mark.kind == "verdict"), default=0)
-        around = [mark.kind for mark in marks[:2] + marks[end:]]
-        if around[:3] != ["outline", "outline", "verdict"] or set(around[3:]) != {"letter"}:
+        # Where the job fails the sentence is told once, in red.
+        last = "sentence" if failure else "verdict"
+        end = max((at for at, mark in enumerate(marks) if mark.kind == last), default=0)
+        end += last == "sentence"
+        around = [mark.kind for mark in marks[:2] + marks[end:] if mark.kind != "verdict"]
+        is_twice = failure and any(mark.kind == "verdict" for mark in marks)
+        if around[:2] != ["outline", "outline"] or set(around[2:]) != {"letter"} or is_twice:
             return f"round the marks stand {around}"
         marks = marks[2:end]
     if failure:

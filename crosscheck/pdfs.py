@@ -7,7 +7,8 @@ the first profile of its fleet `pdf` writes all pages, with --proof and without,
 Each document is read by its table (`pdf_objects.py`): every object stands where that says, and
 nothing else. Each page has the marks of its lines at their places within 1/7200 inch and no other
 (`pdf_marks.py`), and its label tells its number and how it is printed; the last one the failure of
-a job that fails, whose line is written, in a sentence.
+a job that fails, whose line is written, in a sentence. Of a page that the job does not have, or of
+a job without a page, there is no document: standard error tells it, and OUT is as it was.
 
 Where these programs are there, qpdf has to find nothing wrong with a document, and the marks that
 mutool sees are compared with the lines, too (`pdf_traces.py`); which are not there is told first.
@@ -92,9 +93,7 @@ def qpdf_differs(path: str) -> str:
 
 
 def mutool_differs(path: str, due: List[Due], is_proof: bool) -> str:
-    """What is wrong with the marks that mutool sees, or nothing; it opens none without a page."""
-    if not due:
-        return ""
+    """What is wrong with the marks that mutool sees, or nothing."""
     pages = traced_pages(path)
     if len(pages) != len(due):
         return f"mutool: {len(pages)} pages for {len(due)}"
@@ -126,11 +125,31 @@ def run(program: str, *words: str) -> Tuple[int, bytes, bytes]:
     return done.returncode, done.stdout, done.stderr
 
 
+def missing_differs(program: str, job: str, profile: str, out: str, due: List[Due]) -> str:
+    """What is wrong where the page behind the last one is asked for, or any of a job without."""
+    with open(out, "wb") as file:
+        file.write(b"kept")
+    fails = bool(due) and bool(due[-1].failure)
+    number = len(due) + 1
+    told = f"{job}: there is no page {number} (pages={len(due) - fails})\n".encode()
+    for options in (("--page", str(number)), *([] if due else [()])):
+        status, output, errors = run(program, "pdf", job, profile, out, *options)
+        is_told = errors.startswith(told) and errors.count(b"\n") == 1 + fails
+        if (status, output, is_told) != (1, b"", True):
+            return f"{options}: {(status, output, errors)} for {told!r}"
+    with open(out, "rb") as file:
+        return "" if file.read() == b"kept" else "OUT is not as it was"
+
+
 def differences(program: str, folder: str, job: str, profile: str) -> Iterator[str]:
     """What is told of each document of a job: nothing where it is right."""
     status, output, errors = run(program, "pages", job, profile)
     pages, failure = due_of(output.decode("latin-1"))
     out = os.path.join(folder, "out.pdf")
+    if status < 2:
+        yield missing_differs(program, job, profile, out, pages)
+        if not pages:
+            return
     one = max(1, len(pages))
     for options, due in (((), pages), (("--proof",), pages),
                          (("--page", str(one)), pages[-1:])):

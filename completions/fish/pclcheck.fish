@@ -157,6 +157,8 @@ complete -c pclcheck -n '__pclcheck_at check' -l explain \
 complete -c pclcheck -n '__pclcheck_at check' -l exit-zero -d 'Ends with 0 where a job fails, too'
 complete -c pclcheck -n '__pclcheck_at check' -l unchecked -x -a 'fail pass' \
     -d 'How a job counts that pclcheck cannot judge'
+complete -c pclcheck -n '__pclcheck_at check' -l pdf -r \
+    -d 'Writes the pages of each job as a PDF document into a folder that is there'
 complete -c pclcheck -n __pclcheck_at_profile -a '(__pclcheck_samples)' -d sample
 
 complete -c pclcheck -n '__pclcheck_at survey' -l format -x -a 'line words json' \

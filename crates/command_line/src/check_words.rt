@@ -45,6 +45,8 @@ pub const EXPLANATION: &str = "Examples:
   pclcheck check -f shop.fleet --unchecked pass a.pcl b.pcl
       a job that pclcheck cannot judge counts as 0: printers may take what it does not check, and
       what stands behind that place is not looked at
+  pclcheck check -f shop.fleet --format html --pdf out a.pcl b.pcl
+      the pages of each job as a document, too: out/a.pcl.pdf; each is read twice more
   pclcheck check -f shop.fleet --most-items 1000000 a.pcl b.pcl
       a job is given up whose macros would carry out more items, so that none holds a queue
   find . -name '*.pcl' -print0 | pclcheck check -f shop.fleet --files0-from -
@@ -61,8 +63,8 @@ Output of check, one line:
   profile=  the number among the words of the printer for which it was found, from 1;
             0: the bytes alone tell it
 
-With -p, -f, --allow-empty, --most-items, --each, --notes, --format, --explain, --exit-zero or
---unchecked, a line for each job, in the order of the words:
+With -p, -f, --allow-empty, --most-items, --each, --notes, --format, --explain, --exit-zero,
+--unchecked or --pdf, a line for each job, in the order of the words:
   PASS pages=N marks=N JOB
   FAIL at=N printer=NAME FINDING JOB  NAME by its profile; no printer= where the bytes alone tell it
   ERROR read JOB: WHY                 the job could not be read; those behind it are checked

@@ -108,6 +108,14 @@ pub(crate) const MANY_OPTIONS: &[OptionRow] = &[
         excludes: None,
         help: "How a job counts that pclcheck cannot judge",
     },
+    OptionRow {
+        id: "PDF",
+        short: None,
+        long: "pdf",
+        value: Value::Text("DIR"),
+        excludes: None,
+        help: "Writes the pages of each job as a PDF document into a folder that is there",
+    },
 ];
 
 /// Whether the words ask for more than one job for all of its printers together; so does a usual
@@ -118,6 +126,7 @@ pub(crate) fn asks_for_many(usual: Form, found: &ArgMatches<'_>) -> bool {
         || found.contains_id("FORM")
         || found.contains_id("MOST")
         || found.contains_id("COUNT")
+        || found.contains_id("PDF")
         || ["EACH", "EMPTY", "NOTES", "EXPLAIN", "ZERO"]
             .iter()
             .any(|option| found.get_flag(option))
@@ -167,7 +176,16 @@ pub(crate) fn read_many<'a>(
         passes_unchecked: counts_as_pass(found.get_str("COUNT")),
         form: form_asked(found).unwrap_or(usual),
         explains: found.get_flag("EXPLAIN"),
+        documents: folder_of(found.get_str("PDF")),
     }))
+}
+
+/// The path of a folder; that of no letter is the one where the program runs.
+fn folder_of(word: Option<&str>) -> Option<&str> {
+    match word {
+        Some("") => Some("."),
+        word => word,
+    }
 }
 
 /// Whether a job that pclcheck cannot judge counts as one that passes.

@@ -26,8 +26,10 @@ The label of a page tells its number, copies, sides and tray, and the document's
 JOB and the printer.
 
 The page on which the job fails is the last, as far as it came, with a cross in red where the cursor
-was before the item that failed, and at its foot a sentence. A job that does not have the page of
---page gives a document of no page.
+was before the item that failed, and at its foot a sentence.
+
+JOB is read twice, so it has to be a file. Of a job that does not have the page of --page, or has
+none, standard error is told, and OUT is as it was.
 
 The panel is at the first value that the profile lists of each field, or at the value that --panel
 names, as in --panel size=26,vmi=6,lineterm=2; size and orientation take names, too, as a4 and
@@ -42,7 +44,7 @@ Output, where the job fails on these pages:
 
 Exit status:
   0  the document was written, or help was asked for
-  1  the job fails on these pages
+  1  the job fails on these pages, or does not have the page
   2  usage error, a value that the profile does not list, or the profile is refused
   3  a read or a write failed, memory ran out, or no end after 2^40 reads";
 

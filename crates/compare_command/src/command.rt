@@ -116,6 +116,7 @@ fn many_of<'a>(words: &'a [&'a str], form: Form) -> ManyJobs<'a, 'static>
             exit_zero: false,
             passes_unchecked: false,
             read_once: &[],
+            documents: None,
         },
     }
 }

@@ -6,7 +6,8 @@ use Rattle.profile_commands.specs.ProfileFromPjl.{AsksBaseIfAny, LeavesAnswered}
 use Rattle.profile_commands.specs.ProfileLint.{LeavesLint}
 use Rattle.profile_commands.specs.ProfileSheet.{LeavesSheet}
 use Rattle.profile_commands.specs.ProfileShow.{LeavesShown}
-use Rattle.pdf_command.specs.Pdf.{LeavesPdf}
+use Rattle.pdf_command.specs.declared.command.PdfEnd.{PdfEnd}
+use Rattle.pdf_command.specs.Pdf.{Around, EndsPdf, LeavesPdf}
 use Rattle.picture_command.specs.Picture.{BeforeAndAfter, HasNoEnd, IsNamedBy, LeavesPicture}
 use Rattle.renderings.specs.Expected.{Rendering, plain_rendering}
 use Rattle.streams.specs.declared.error.Error.TheVariants.{Turns}
@@ -31,9 +32,9 @@ use Rattle.subcommands.specs.Check.{IsRightFor, Leaves, texts_by}
 use Rattle.subcommands.specs.JobNotes.{LeavesNotes}
 use Rattle.subcommands.specs.JobTexts.{EndsBy, LeavesOut, LeavesPages, LeavesPinned, LeavesText}
 use Rattle.survey.specs.Command.{LeavesSurvey}
-use Rattle.file_requests.specs.Outs.{EndsOut, PutsOut}
+use Rattle.file_requests.specs.Outs.{EndsDocument, EndsOut, PutsDocument, PutsOut}
 use Rattle.file_requests.specs.JobRequests.{LeavesCheck, LeavesNotesFor, LeavesPagesFor, LeavesPictureOfFile, LeavesPin}
-use Rattle.file_requests.specs.JobRequests.{LeavesPdfAt, LeavesPlain, LeavesRendered, LeavesSurveyOf}
+use Rattle.file_requests.specs.JobRequests.{LeavesPdfOfFile, LeavesPlain, LeavesRendered, LeavesSurveyOf}
 use Rattle.file_requests.specs.ProfileRequests.{LeavesAnsweredFor, LeavesLintFor, LeavesSheetFor, LeavesShownFor}
 
 -- ---- profiles
@@ -346,66 +347,118 @@ pin_left path into at to word choices given texts failed job job' answer status 
       put = puts_out into answer status file' ended end;
     }
 
--- what the document of a job leaves, for the printer of this word by these texts
-abbrev document_left : Status → (word : List ℕ) → List Choice → Selection → Bool → (path : List ℕ) → (given texts : List (List ℕ)) →
-    SourceState → SourceState → OutletState → OutletState → OutletState → OutletState → Type 0
-document_left answer word choices selection is_proof path given texts =
-    LeavesPdf answer (IsNamedBy given texts (IsNamed (text_named word) given texts)) choices selection is_proof path
-
-pub pdf_left : (path into at to word : List ℕ) (choices : List Choice) (selection : Selection) (is_proof : Bool)
-    (given texts : List (List ℕ)) (failed : Bool)
-    (job job' : SourceState) (answer status : Status) (out out' file file' err err' : OutletState) (ended : FileOutletState)
-    (before named : List (List ℕ)) (used early between used' : List FileUse)
-    → given ≡ [] → job ≡ no_source → file ≡ no_outlet
-    → EndsBy answer (λ s s'. document_left answer word choices selection is_proof path given texts s s' file file' out out') job job'
-    (job'.failed || failed) (file'.failed || out'.failed)
-    → TellsOfPin answer (IsNamed (text_named word) given texts) choices err err'
-    → EndsOut answer status file' ended
-    → before ≡ [] → named ≡ before ++ word ∷ [] → early ≡ used ++ TextsAt named texts failed ∷ []
-    → at ≡ path → to ≡ into → between ≡ early ++ read_at at job' ∷ [] → used' ≡ between ++ written_at to ended.outlet ended.is_put ∷ []
-    → LeavesPdfAt path into word choices selection is_proof status used used' out out' err err'
-pdf_left path into at to word choices selection is_proof given texts failed job job' answer status out out' file file' err err' ended
-    before named used early between used' none new unwritten ends choice end unnamed are told is is_out read written = record {
-      job = job';
-      texts = texts;
-      failed = failed;
-      file = file';
-      answer = answer;
-      one = written_at into ended.outlet ended.is_put;
-      used_are =
-          one_behind used between used' (TextsAt (word ∷ []) texts failed ∷ read_at path job' ∷ [])
-          (written_at into ended.outlet ended.is_put)
-          (one_more used early between (TextsAt (word ∷ []) texts failed) (read_at path job')
-          (texts_read used early before named texts (word ∷ []) failed unnamed are told) (one_read early between path at job' is read))
-          (one_written between used' into to ended.outlet ended.is_put is_out written);
-      ends =
-          at_reads answer (λ s s'. document_left answer word choices selection is_proof path [] texts s s' no_outlet file' out out')
-          no_source
-          job' (job'.failed || failed) (file'.failed || out'.failed)
-          (subst
-          (λ f. EndsBy answer (λ s s'. document_left answer word choices selection is_proof path [] texts s s' f file' out out')
-          no_source
-          job' (job'.failed || failed) (file'.failed || out'.failed))
-          unwritten
-          (subst
-          (λ g. EndsBy answer (λ s s'. document_left answer word choices selection is_proof path g texts s s' file file' out out')
-          no_source
-          job' (job'.failed || failed) (file'.failed || out'.failed))
-          none
-          (subst
-          (λ s. EndsBy answer
-          (λ s s'. document_left answer word choices selection is_proof path given texts s s' file file' out out') s job'
-          (job'.failed || failed) (file'.failed || out'.failed))
-          new ends)));
-      choice = subst (λ g. TellsOfPin answer (IsNamed (text_named word) g texts) choices err err') none choice;
-      put = puts_out into answer status file' ended end;
-    }
+-- what was put in OUT's place of a document is so in the history
+puts_document : (into : List ℕ) (end : PdfEnd) (status : Status) (file : OutletState) (file' : FileOutletState) →
+    EndsDocument end status file file' → PutsDocument into end status file (written_at into file'.outlet file'.is_put)
+puts_document into end status file file' (inl same) =
+    inl (same.0, ap (λ (o : OutletState). written_at into o file'.is_put) same.1 ∙ ap (λ (b : Bool). written_at into file b) same.2)
+puts_document into end status file file' (inr stop) =
+    let unput : OutletState = record file { failed = true } in
+    inr (
+      stop.0,
+      stop.1,
+      ap (λ (o : OutletState). written_at into o file'.is_put) stop.2 ∙ ap (λ (b : Bool). written_at into unput b) stop.3,
+    )
 
 -- one of two readings failed, or that of a text
 pub reads_stop : (first second text stops : Bool) → (first || second || text) ≡ stops → IsTrue (first || second) → IsTrue stops
 reads_stop true second text stops is failed = sym is
 reads_stop false true text stops is failed = sym is
 reads_stop false false text stops is failed = cc
+
+abbrev around_pdf : (first first' job job' : SourceState) (file file' out out' err err' : OutletState) → Around
+around_pdf first first' job job' file file' out out' err err' = record {
+  first = first;
+  first' = first';
+  second = job;
+  second' = job';
+  out = file;
+  out' = file';
+  line = out;
+  line' = out';
+  err = err;
+  err' = err';
+}
+
+-- how the document of a job ends, for the printer of this word by these texts
+abbrev document_ends : PdfEnd → (word : List ℕ) → List Choice → Selection → Bool → (path : List ℕ) → (given texts : List (List ℕ)) →
+    Around → (read_failed write_failed : Bool) → Type 0
+document_ends end word choices selection is_proof path given texts a read_failed write_failed =
+    EndsPdf end (LeavesPdf end (IsNamedBy given texts (IsNamed (text_named word) given texts)) choices selection is_proof path) a
+    read_failed write_failed
+
+-- the work stopped at a read just where one failed, whichever it was
+document_reads : (end : PdfEnd) (Left : Around → Type 0) (a : Around) (read_failed write_failed : Bool)
+    → EndsPdf end Left a read_failed write_failed → EndsPdf end Left a (is_stop_of_read end.status) write_failed
+document_reads end Left a read_failed write_failed ends = record {
+  left = ends.left;
+  read = refl;
+  write = ends.write;
+  turns = ends.turns;
+}
+
+pub pdf_left : (path into at again to word : List ℕ) (choices : List Choice) (selection : Selection) (is_proof : Bool)
+    (given texts : List (List ℕ)) (failed : Bool) (first first' job job' : SourceState) (end : PdfEnd) (status : Status)
+    (out out' file file' err err' : OutletState) (over : FileOutletState) (before named : List (List ℕ))
+    (used early middle between used' : List FileUse)
+    → given ≡ [] → first ≡ no_source → job ≡ no_source → file ≡ no_outlet
+    → document_ends end word choices selection is_proof path given texts
+    (around_pdf first first' job job' file file' out out' err err')
+    (first'.failed || job'.failed || failed) (file'.failed || out'.failed)
+    → TellsOfPin end.status (IsNamed (text_named word) given texts) choices err err'
+    → EndsDocument end status file' over
+    → before ≡ [] → named ≡ before ++ word ∷ [] → early ≡ used ++ TextsAt named texts failed ∷ []
+    → at ≡ path → again ≡ path → to ≡ into
+    → middle ≡ early ++ read_at at first' ∷ [] → between ≡ middle ++ read_at again job' ∷ []
+    → used' ≡ between ++ written_at to over.outlet over.is_put ∷ []
+    → LeavesPdfOfFile path into word choices selection is_proof status used used' out out' err err'
+pdf_left path into at again to word choices selection is_proof given texts failed first first' job job' end status out out' file file' err
+    err' over before named used early middle between used' none new new' unwritten ends choice closed unnamed are told is is' is_out reads
+    reads' written =
+    let asked = TextsAt (word ∷ []) texts failed in
+    let one = written_at into over.outlet over.is_put in
+    let read_failed = first'.failed || job'.failed || failed in
+    let write_failed = file'.failed || out'.failed in
+    let both : between ≡ used ++ asked ∷ read_at path first' ∷ read_at path job' ∷ [] =
+    one_behind used middle between (asked ∷ read_at path first' ∷ []) (read_at path job')
+    (one_more used early middle asked (read_at path first')
+    (texts_read used early before named texts (word ∷ []) failed unnamed are told) (one_read early middle path at first' is reads))
+    (one_read middle between path again job' is' reads') in
+    record {
+      first = first';
+      job = job';
+      texts = texts;
+      failed = failed;
+      file = file';
+      end = end;
+      one = one;
+      used_are =
+          one_behind used between used' (asked ∷ read_at path first' ∷ read_at path job' ∷ []) one both
+          (one_written between used' into to over.outlet over.is_put is_out written);
+      ends =
+          document_reads end
+          (LeavesPdf end (IsNamedBy [] texts (IsNamed (text_named word) [] texts)) choices selection is_proof path)
+          (around_pdf no_source first' no_source job' no_outlet file' out out' err err') read_failed write_failed
+          (subst
+          (λ f. document_ends end word choices selection is_proof path [] texts
+          (around_pdf no_source first' no_source job' f file' out out' err err') read_failed write_failed)
+          unwritten
+          (subst
+          (λ g. document_ends end word choices selection is_proof path g texts
+          (around_pdf no_source first' no_source job' file file' out out' err err') read_failed write_failed)
+          none
+          (subst
+          (λ s. document_ends end word choices selection is_proof path given texts
+          (around_pdf no_source first' s job' file file' out out' err err') read_failed write_failed)
+          new'
+          (subst
+          (λ s. document_ends end word choices selection is_proof path given texts
+          (around_pdf s first' job job' file file' out out' err err') read_failed write_failed)
+          new ends))));
+      read = reads_stop first'.failed job'.failed failed (is_stop_of_read end.status) ends.read;
+      choice = subst (λ g. TellsOfPin end.status (IsNamed (text_named word) g texts) choices err err') none choice;
+      put = puts_document into end status file' over closed;
+    }
 
 abbrev around : (first first' second second' : SourceState) (out out' err err' : OutletState) → BeforeAndAfter
 around first first' second second' out out' err err' = record {

@@ -17,9 +17,10 @@ use Rattle.subcommands.specs.JobNotes.{LeavesNotes}
 use Rattle.survey.specs.Command.{LeavesSurvey}
 use Rattle.subcommands.specs.JobTexts.{EndsBy, LeavesOut, LeavesPages, LeavesPinned, LeavesText}
 use Rattle.named_inputs.specs.Choices.{TellsOfPin}
-use Rattle.pdf_command.specs.Pdf.{LeavesPdf}
+use Rattle.pdf_command.specs.declared.command.PdfEnd.{PdfEnd}
+use Rattle.pdf_command.specs.Pdf.{EndsPdf, LeavesPdf}
 use Rattle.picture_command.specs.Picture.{HasNoEnd, IsNamedBy, LeavesPicture}
-use Rattle.file_requests.specs.Outs.{PutsOut}
+use Rattle.file_requests.specs.Outs.{PutsDocument, PutsOut}
 use Rattle.requests.specs.Status.{is_stop_of_read, is_stop_of_write}
 use Rattle.named_inputs.specs.Texts.{text_named}
 use Rattle.requests.specs.declared.choices.Choice.{Choice}
@@ -144,20 +145,45 @@ pub record LeavesPin (path into word : List ℕ) (choices : List Choice) (status
   pub choice : TellsOfPin answer (IsNamed (text_named word) [] texts) choices err err'
   pub put : PutsOut into answer status file one
 
--- pages of the job at a path as a document, from the panel that is chosen of the printer that this word names, put in
--- the place of the file at another
-pub record LeavesPdfAt (path into word : List ℕ) (choices : List Choice) (selection : Selection) (is_proof : Bool)
+-- why a document reads its job again: to write what was found
+abbrev pub read_to_write : List ℕ
+read_to_write = codes "a document is written at a second reading\n"
+
+-- Pages of the job at a path as a document, from the panel that is chosen of the printer that this word names, put in
+-- the place of the file at another. The job is read twice; the work stops where one of these reads fails, and for its
+-- turns after 2^40 reads.
+pub record LeavesPdfOfFile (path into word : List ℕ) (choices : List Choice) (selection : Selection) (is_proof : Bool)
     (status : Status) (used used' : List FileUse) (out out' err err' : OutletState) : Type 0 where
+  pub first : SourceState
   pub job : SourceState
   pub texts : List (List ℕ)
   pub failed : Bool
   pub file : OutletState
-  pub answer : Status
+  pub end : PdfEnd
   pub one : FileUse
-  pub used_are : used' ≡ used ++ TextsAt (word ∷ []) texts failed ∷ read_at path job ∷ one ∷ []
-  pub ends : EndsBy answer
-      (λ old new. LeavesPdf answer (IsNamedBy [] texts (IsNamed (text_named word) [] texts)) choices selection is_proof
-      path old new no_outlet file out out')
-      no_source job (is_stop_of_read answer) (file.failed || out'.failed)
-  pub choice : TellsOfPin answer (IsNamed (text_named word) [] texts) choices err err'
-  pub put : PutsOut into answer status file one
+  pub used_are : used' ≡ used ++ TextsAt (word ∷ []) texts failed ∷ read_at path first ∷ read_at path job ∷ one ∷ []
+  pub ends : EndsPdf end
+      (LeavesPdf end (IsNamedBy [] texts (IsNamed (text_named word) [] texts)) choices selection is_proof path)
+      (record {
+        first = no_source;
+        first' = first;
+        second = no_source;
+        second' = job;
+        out = no_outlet;
+        out' = file;
+        line = out;
+        line' = out';
+        err = err;
+        err' = err';
+      })
+      (is_stop_of_read end.status) (file.failed || out'.failed)
+  pub read : IsTrue (first.failed || job.failed) → IsTrue (is_stop_of_read end.status)
+  pub choice : TellsOfPin end.status (IsNamed (text_named word) [] texts) choices err err'
+  pub put : PutsDocument into end status file one
+
+-- the same, unless the job is no file and is refused, since it cannot be read twice
+abbrev pub LeavesPdfAt : (path into word : List ℕ) → List Choice → Selection → (is_proof : Bool) → Status →
+    List FileUse → List FileUse → OutletState → OutletState → OutletState → OutletState → Type 0
+LeavesPdfAt path into word choices selection is_proof status used used' out out' err err' =
+    LeavesPdfOfFile path into word choices selection is_proof status used used' out out' err err'
+    ⊎ (RefusesPipe (path ∷ []) read_to_write status err err' × (out' ≡ out) × (used' ≡ used))

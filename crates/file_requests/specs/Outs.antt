@@ -1,5 +1,7 @@
 -- How OUT ends, behind the command that wrote it.
 use Rattle.std.specs.Prelude.{◌≡◌, ◌⊎◌, ℕ, List, true, false, IsFalse, IsTrue}
+use Rattle.pdf_command.specs.declared.command.PdfEnd.{PdfEnd}
+use Rattle.pdf_command.specs.Pdf.{has_document}
 use Rattle.streams.specs.declared.error.Error.TheVariants.{Write}
 use Rattle.streams.specs.Files.{FileOutletState}
 use Rattle.streams.specs.Outlet.{OutletState}
@@ -21,4 +23,17 @@ abbrev pub PutsOut : (into : List ℕ) (answer status : Status) → OutletState 
 PutsOut into answer status file one =
     ((status ≡ answer) × (one ≡ written_at into file (is_complete answer)))
     ⊎ ((status ≡ Stopped Write) × IsTrue (is_complete answer)
+    × (one ≡ written_at into (record file { failed = true }) false))
+
+-- so behind `pdf`: what it wrote was put there just where that is a document
+abbrev pub EndsDocument : PdfEnd → Status → OutletState → FileOutletState → Type 0
+EndsDocument end status file file' =
+    ((status ≡ end.status) × (file'.outlet ≡ file) × (file'.is_put ≡ has_document end))
+    ⊎ ((status ≡ Stopped Write) × IsTrue (has_document end) × (file'.outlet ≡ record file { failed = true })
+    × IsFalse file'.is_put)
+
+abbrev pub PutsDocument : (into : List ℕ) → PdfEnd → Status → OutletState → FileUse → Type 0
+PutsDocument into end status file one =
+    ((status ≡ end.status) × (one ≡ written_at into file (has_document end)))
+    ⊎ ((status ≡ Stopped Write) × IsTrue (has_document end)
     × (one ≡ written_at into (record file { failed = true }) false))

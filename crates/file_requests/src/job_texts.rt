@@ -8,7 +8,7 @@ ghost use Rattle.file_requests.specs.JobRequests.{LeavesPlain};
 ghost use Rattle.file_requests.specs.JobRequests.{LeavesRendered, LeavesSurveyOf};
 ghost use Rattle.named_inputs.specs.Texts.{text_named};
 
-use crate::outs::end_out;
+use crate::outs::{end_document, end_out};
 use job_reports::{is_pipe, refuse_pipe};
 use named_inputs::{FileJobs, FileTexts};
 use pdf_command::PdfAsked;
@@ -150,8 +150,11 @@ pub fn picture<R: Files + AllocGlobal, O: Outlet, E: Outlet>(
     status
 }
 
+/// Why a document reads its job again.
+const READ_TO_WRITE: &[u8] = b"a document is written at a second reading\n";
+
 /// Writes pages of the job at a path as a PDF document, in the place of the file at another, from a
-/// panel setting of a printer.
+/// panel setting of a printer. A job that is no file is refused, since it cannot be read twice.
 pub fn pdf<R: Files + Print + AllocGlobal, O: Outlet, E: Outlet>(
     rt: &R,
     asked: &PdfAsked<'_>,
@@ -167,11 +170,16 @@ pub fn pdf<R: Files + Print + AllocGlobal, O: Outlet, E: Outlet>(
         used.old used.new
         (O.state stdout.old) (O.state stdout.new) (E.state stderr.old) (E.state stderr.new) }
 {
+    if is_pipe(rt, asked.job.as_bytes()) {
+        return refuse_pipe(rt.alloc(), asked.job.as_bytes(), READ_TO_WRITE, stderr);
+    }
+    let mut first = SourceAt::new(rt, asked.job);
     let mut source = SourceAt::new(rt, asked.job);
     let mut texts = FileTexts::new(rt);
     let mut outlet = OutletAt::new(rt, out);
-    let answer = pdf_command::pdf(
+    let ended = pdf_command::pdf(
         rt.alloc(),
+        &mut first.file,
         &mut source.file,
         &mut texts,
         asked,
@@ -179,8 +187,9 @@ pub fn pdf<R: Files + Print + AllocGlobal, O: Outlet, E: Outlet>(
         stdout,
         stderr,
     );
-    let status = end_out(answer, &mut outlet.file);
+    let status = end_document(ended, &mut outlet.file);
     texts.end(used);
+    used.read(first);
     used.read(source);
     used.written(outlet);
     status

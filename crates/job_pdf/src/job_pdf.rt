@@ -208,9 +208,9 @@ impl<P: Allocator, B: Allocator + Copy> Renderer for JobPdf<'_, '_, P, B> {
 ///
 /// The page on which the job fails stands as far as it came before the first finding, or before a
 /// fault of the bytes, with a cross where the cursor was and a sentence. A job that does not have
-/// the page that is wanted alone gives a document of no page. After an error a front of the text is
-/// written: `Memory` where the allocator refused a request, `Read` and `Write` where a read or a
-/// write failed, `Turns` after 2^40 reads without an end.
+/// the page that is wanted alone gives a document of no page: callers ask for that before. After an
+/// error a front of the text is written: `Memory` where the allocator refused a request, `Read` and
+/// `Write` where a read or a write failed, `Turns` after 2^40 reads without an end.
 pub fn pdf_of<S: Source, W: Outlet, A: Allocator + Copy, P: Allocator>(
     alloc: A,
     reader: &mut S,

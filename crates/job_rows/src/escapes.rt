@@ -58,7 +58,7 @@ pub fn texts_are_inert()
     ensures { (text : List ℕ) → are_inert (html_text text) ≡ true }
 {}
 
-fn is_between(first: u8, last: u8, byte: u8) -> bool
+pub(crate) fn is_between(first: u8, last: u8, byte: u8) -> bool
     ensures { result ≡ is_between first last byte }
 {
     first <= byte && byte <= last

@@ -1,5 +1,5 @@
 -- What is asked of a check of many jobs, by the words.
-use Rattle.std.specs.Prelude.{map}
+use Rattle.std.specs.Prelude.{map, option_map}
 use Rattle.many_jobs.specs.declared.check_jobs.ManyJobs.{ManyJobs}
 use Rattle.many_jobs.specs.declared.telling.Telling.{Telling}
 use Rattle.many_jobs.specs.CheckMany.{Asked}
@@ -12,6 +12,7 @@ told_by telling = record {
   exit_zero = telling.exit_zero;
   passes_unchecked = telling.passes_unchecked;
   read_once = map (λ name. name.now) telling.read_once.now;
+  documents = option_map (λ folder. folder.now) telling.documents;
 }
 
 abbrev pub asked_for : ManyJobs → Asked

@@ -21,6 +21,7 @@ use Rattle.requests.specs.declared.selection.DrawnPages.TheVariants.{One}
 use Rattle.job_picture.specs.JobPicture.{picture_rendering}
 use Rattle.job_reports.specs.Groups.{Groups, reported}
 use Rattle.job_reports.specs.Reports.{number_told, verdict_told}
+use Rattle.job_rows.specs.Links.{DocumentTold}
 use Rattle.job_rows.specs.Rows.{PartsTold, row_text}
 use Rattle.named_inputs.specs.FileJobs.{is_input}
 use Rattle.many_jobs.specs.JobNoting.{Noted, ending_of_notes, noted_after}
@@ -101,6 +102,14 @@ is_among names job = list_any (has_name job) names
 abbrev pub is_read_once : HowTold → (job : List ℕ) → Bool
 is_read_once telling job = is_input job || is_among telling.read_once job
 
+-- where the document of a job is: in the folder that has those of jobs that can be read again
+abbrev pub document_in : (folder job : List ℕ) → DocumentTold
+document_in folder job = record { folder = folder; job = job }
+
+abbrev pub document_of : HowTold → (job : List ℕ) → Option DocumentTold
+document_of telling job =
+    if is_read_once telling job then None else option_map (λ folder. document_in folder job) telling.documents
+
 -- ---- the picture of a page
 
 -- from the first panel of a printer
@@ -165,10 +174,16 @@ pub record RowRead : Type 0 where
 abbrev pub row_afters : List ℕ → Option Noted → Option Reread → Option Reread → List JobRead
 row_afters job noted near page = noted_after job noted ++ reread_after job near ++ reread_after job page
 
--- these parts, of a job that can be read only once just where it is one of those
+-- these parts, of a job that can be read only once just where it is one of those, and else with its document
 abbrev pub parts_with : HowTold → (job : List ℕ) → (notes near page : Option (Result (List ℕ) Error)) → PartsTold
 parts_with telling job notes near page =
-    record { notes = notes; near = near; page = page; is_once = is_read_once telling job }
+    record {
+      notes = notes;
+      near = near;
+      page = page;
+      is_once = is_read_once telling job;
+      document = document_of telling job;
+    }
 
 abbrev pub parts_of : HowTold → (job : List ℕ) → Option Noted → Option Reread → Option Reread → PartsTold
 parts_of telling job noted near page =

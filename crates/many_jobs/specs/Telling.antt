@@ -1,5 +1,5 @@
 -- How it is told what came of a job.
-use Rattle.std.specs.Prelude.{ℕ, Bool, true, false, List, [], ◌++◌, decimal, None, Result, Ok, Err}
+use Rattle.std.specs.Prelude.{ℕ, Bool, true, false, List, [], ◌++◌, decimal, None, Option, Result, Ok, Err}
 use Rattle.streams.specs.declared.error.Error.{Error}
 use Rattle.verdict.specs.Numbers.{reason_number}
 use Rattle.verdict.specs.declared.verdict.Verdict.{Verdict}
@@ -14,13 +14,15 @@ use Rattle.many_jobs.specs.declared.telling.Format.{Format}
 use Rattle.many_jobs.specs.declared.telling.Format.TheVariants.{Line, Words, Json, Html}
 
 -- the form, the explanations of which a FAIL and a note get their own, whether a FAIL counts as a PASS, whether one
--- does by which pclcheck alone says no, and which jobs can be read only once
+-- does by which pclcheck alone says no, which jobs can be read only once, and the folder that has a document of the
+-- pages of each other job
 pub record HowTold : Type 0 where
   pub format : Format
   pub explanations : List (List ℕ)
   pub exit_zero : Bool
   pub passes_unchecked : Bool
   pub read_once : List (List ℕ)
+  pub documents : Option (List ℕ)
 
 -- what these explanations say of what is wrong
 abbrev pub explained : List (List ℕ) → Result Verdict Error → List ℕ
@@ -37,7 +39,7 @@ is_html Html = true
 
 -- nothing is told of a job by further readings
 abbrev pub no_parts : PartsTold
-no_parts = record { notes = None; near = None; page = None; is_once = false }
+no_parts = record { notes = None; near = None; page = None; is_once = false; document = None }
 
 -- the line, the sentence, the object or the row of a job, with what stands below a line or a sentence, or in an object
 -- or a row

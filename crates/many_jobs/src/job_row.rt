@@ -1,15 +1,17 @@
 //! The row of a job, in a document of many jobs: for it the job is read again.
 ghost use Rattle.std.specs.Prelude.{◌≡◌, ◌-◌, IfErr, IfOk, IsFalse, List, OnOk, Option, map};
-ghost use Rattle.std.specs.Prelude.{slice_get, ℕ};
+ghost use Rattle.std.specs.Prelude.{option_map, slice_get, ℕ};
 ghost use Rattle.std.specs.Option.{option_copied};
 ghost use Rattle.streams.specs.Errors.{is_err_of_write};
 ghost use Rattle.job_rows.specs.Kept.{kept_part};
+ghost use Rattle.job_rows.specs.Links.{told_of};
 ghost use Rattle.job_reports.specs.Reports.{verdict_told};
 ghost use Rattle.many_jobs.specs.Asked.{told_by};
 ghost use Rattle.many_jobs.specs.JobChecks.{AddsRow, AddsTold, CutsRow, CutsTold, work};
 ghost use Rattle.many_jobs.specs.JobNoting.{AreRightNotes, note_printer};
-ghost use Rattle.many_jobs.specs.JobRow.{Rereads, RereadsNotes, drawn_by, has_name, is_among};
-ghost use Rattle.many_jobs.specs.JobRow.{is_read_once, near_of_job, page_of_job, page_shown};
+ghost use Rattle.many_jobs.specs.JobRow.{Rereads, RereadsNotes, document_of, drawn_by, has_name};
+ghost use Rattle.many_jobs.specs.JobRow.{is_among, is_read_once, near_of_job, page_of_job};
+ghost use Rattle.many_jobs.specs.JobRow.{page_shown};
 ghost use Rattle.many_jobs.specs.JobRow.{place_shown, printer_shown, row_with};
 ghost use Rattle.many_jobs.specs.NoteReports.{subject_of, told_note};
 
@@ -19,7 +21,7 @@ use crate::kept_readings::{read_near, read_page};
 use crate::telling::{Telling, push_told_row};
 use device_profile::Profile;
 use job_reports::{PrinterGroup, Report};
-use job_rows::RowParts;
+use job_rows::{JobDocument, RowParts};
 use named_inputs::system_words::system_words;
 use named_inputs::{Jobs, is_input};
 use preflight::{Judgement, Verdict};
@@ -58,6 +60,7 @@ pub(crate) fn tell_row<'n, J: Jobs<'n>, O: Outlet, A: Allocator + Copy>(
     let near = reread_near(alloc, jobs, name, answer, telling);
     let page = reread_page(alloc, jobs, name, group, answer, telling);
     let once = is_read_once(telling, name);
+    let document = document_of(telling, name);
     let judged = Ending::of(telling, answer);
     let noted = Ending::of_notes(&notes);
     let parts = RowParts {
@@ -65,6 +68,7 @@ pub(crate) fn tell_row<'n, J: Jobs<'n>, O: Outlet, A: Allocator + Copy>(
         near,
         page,
         is_once: once,
+        document,
     };
     write_row(alloc, group, name, answer, error, telling, &parts, stdout)?;
     Ok(judged.worse(noted))
@@ -78,7 +82,7 @@ fn write_row<'t, O: Outlet, A: Allocator + Copy>(
     answer: Result<Judgement, Error>,
     error: Option<io::Error>,
     telling: &Telling<'_>,
-    parts: &RowParts<A>,
+    parts: &RowParts<'_, A>,
     stdout: &mut O,
 ) -> Result<(), Error>
     requires { IsFalse (O.state stdout.old).failed }
@@ -102,7 +106,7 @@ fn row_of_job<'t, A: Allocator + Copy>(
     answer: Result<Judgement, Error>,
     error: Option<io::Error>,
     telling: &Telling<'_>,
-    parts: &RowParts<A>,
+    parts: &RowParts<'_, A>,
 ) -> Result<Vec<u8, A>, AllocError>
     ensures { IfOk result (λ row. (cause : Option (List ℕ)) × (row.items ≡
         row_with (told_by telling.now) group.now name.now answer cause parts.now)) }
@@ -279,10 +283,23 @@ fn printer_of<A: Allocator>(number: u64, printers: &[Profile<A>]) -> Option<&Pro
 // ---- jobs that can be read only once
 
 /// Whether a job is standard input, or one of those that can be read only once.
-fn is_read_once(telling: &Telling<'_>, job: &[u8]) -> bool
+pub fn is_read_once(telling: &Telling<'_>, job: &[u8]) -> bool
     ensures { result ≡ is_read_once (told_by telling.now) job.now }
 {
     is_input(job) || is_among(telling.read_once, job)
+}
+
+/// Where the document of a job is, if it has one.
+fn document_of<'d>(telling: &Telling<'d>, job: &'d [u8]) -> Option<JobDocument<'d>>
+    ensures { option_map told_of result ≡ document_of (told_by telling.now) job.now }
+{
+    if is_read_once(telling, job) {
+        return None;
+    }
+    match telling.documents {
+        None => None,
+        Some(folder) => Some(JobDocument { folder, job }),
+    }
 }
 
 /// Whether a job is one of these.

@@ -22,6 +22,7 @@ mod told_lines;
 pub use check_jobs::{ManyJobs, check_many, tell_refusal, word_of};
 pub use fleet_file::read_fleet_file;
 pub use job_objects::push_job_object;
+pub use job_row::is_read_once;
 pub use json_object::Object;
 pub use kept_texts::printer_names;
 pub use telling::{Format, Telling};

@@ -52,6 +52,8 @@ pub struct Telling<'t> {
     pub passes_unchecked: bool,
     /// The jobs that can be read only once: a document has no page of them.
     pub read_once: &'t [&'t [u8]],
+    /// The folder that has a document of the pages of each other job.
+    pub documents: Option<&'t str>,
 }
 
 /// Appends what is told of a job, and below a line or a sentence, or in a row, the explanation of
@@ -85,7 +87,7 @@ pub(crate) fn push_told_row<A: Allocator + Copy>(
     line: &mut Vec<u8, A>,
     report: &Report<'_, '_, A>,
     telling: &Telling<'_>,
-    parts: &RowParts<A>,
+    parts: &RowParts<'_, A>,
 ) -> Result<(), AllocError>
     ensures { OnOk result (line.new.items ≡ line.old.items ++ row_text
         (explained (told_by telling.now).explanations (verdict_told report.now.answer))
@@ -96,7 +98,7 @@ pub(crate) fn push_told_row<A: Allocator + Copy>(
 }
 
 /// Nothing is told of a job by further readings.
-fn no_parts<A: Allocator>() -> RowParts<A>
+fn no_parts<A: Allocator>() -> RowParts<'static, A>
     ensures { result ≡ no_parts }
 {
     RowParts {
@@ -104,6 +106,7 @@ fn no_parts<A: Allocator>() -> RowParts<A>
         near: None,
         page: None,
         is_once: false,
+        document: None,
     }
 }
 

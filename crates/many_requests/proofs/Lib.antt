@@ -2,6 +2,7 @@ mod AskedLeft
 mod Asking
 mod ComparisonLeft
 mod Contained
+mod DocumentsLeft
 mod DrawnLeft
 mod Fleets
 mod GoldenLeft

@@ -3,7 +3,7 @@
 -- words, and each job under its name, as often as it was read. Standard input is the job `-`; where it has the names,
 -- it is not in the history.
 use Rattle.std.specs.Prelude.{◌≡◌, ◌⊎◌, ◌∷◌, ◌++◌, ℕ, Bool, List, [], flat_map, map, option_map, Contains, IsFalse}
-use Rattle.std.specs.Prelude.{IsTrue, Option, Some, false, if◌then◌else◌}
+use Rattle.std.specs.Prelude.{IsTrue, None, Option, Some, false, if◌then◌else◌}
 use Rattle.std.specs.declared.alloc.Global.{Global}
 use Rattle.requests.specs.declared.many_words.Form.{Form}
 use Rattle.requests.specs.declared.many_words.Form.TheVariants.{Line as LineForm, Words as WordsForm}
@@ -25,6 +25,7 @@ use Rattle.requests.specs.declared.status.Status.TheVariants.{Stopped}
 use Rattle.requests.specs.Status.{is_stop_of_write}
 use Rattle.many_jobs.specs.declared.telling.Format.{Format}
 use Rattle.many_jobs.specs.declared.telling.Format.TheVariants.{Line, Words, Json, Html}
+use Rattle.many_requests.specs.Documents.{RefusesName, WritesBehind, has_lines, same_named}
 use Rattle.many_requests.specs.Inputs.{RefusesInput, reads_input_again}
 use Rattle.many_requests.specs.Lists.{RefusesList, is_refused_list, list_fault, path_of}
 use Rattle.many_requests.specs.Names.{AreNamesAt, names_in}
@@ -33,8 +34,8 @@ use Rattle.many_requests.specs.Names.{AreNamesAt, names_in}
 
 -- by the words: the jobs, the file of their names, whether that may have none, the printers, the fleets, how many
 -- items macros may carry out, whether each printer is told of by itself, whether the notes of a job that passes are
--- told, the form, the explanations of which a FAIL and a note get their own, whether a FAIL counts as a PASS, and
--- whether one does by which pclcheck alone says no
+-- told, the form, the explanations of which a FAIL and a note get their own, whether a FAIL counts as a PASS, whether
+-- one does by which pclcheck alone says no, and the folder that gets the documents of jobs
 pub record Asking : Type 0 where
   pub jobs : List (List ℕ)
   pub names_from : Option (List ℕ)
@@ -48,6 +49,7 @@ pub record Asking : Type 0 where
   pub explanations : List (List ℕ)
   pub exit_zero : Bool
   pub passes_unchecked : Bool
+  pub documents : Option (List ℕ)
 
 -- these words ask for that, where these are the explanations
 abbrev pub asking : List (List ℕ) → ManyWords → Asking
@@ -64,6 +66,7 @@ asking texts words = record {
   explanations = if words.explains then texts else [];
   exit_zero = words.exit_zero;
   passes_unchecked = words.passes_unchecked;
+  documents = option_map (λ folder. folder.now) words.documents;
 }
 
 -- a form, in whatever memory an object is put together
@@ -79,6 +82,7 @@ pub record IsTelling (asking : Asking) (telling : HowTold) : Type 0 where
   pub explanations : telling.explanations ≡ asking.explanations
   pub exit_zero : telling.exit_zero ≡ asking.exit_zero
   pub passes_unchecked : telling.passes_unchecked ≡ asking.passes_unchecked
+  pub documents : telling.documents ≡ asking.documents
 
 -- What is checked: the jobs of the words and then those that the bytes of the file of names have, for the printers of
 -- the words and then those that the texts of the fleets name. The history of files has these texts, under the paths of
@@ -125,13 +129,32 @@ LeavesAsked names_from asked status used used' out out' err err' =
     × (out'.failed ≡ is_stop_of_write status))
     ⊎ (RefusesInput names_from asked status err err' × (out' ≡ out) × (used' ≡ used))
 
+-- They are checked, and behind that their documents are written; or jobs of one name are refused, whose documents would
+-- be one file.
+pub record LeavesDocuments (folder : List ℕ) (names_from : Option (List ℕ)) (asked : Asked) (status : Status)
+    (used used' : List FileUse) (out out' err err' : OutletState) : Type 0 where
+  pub apart : same_named asked.jobs ≡ None
+  pub answer : Status
+  pub between : List FileUse
+  pub told : OutletState
+  pub checked : LeavesAsked names_from asked answer used between out out' err told
+  pub written : WritesBehind (has_lines answer) folder asked answer status between used' told err'
+
+abbrev pub LeavesWith : (documents : Option (List ℕ)) → Option (List ℕ) → Asked → Status → List FileUse →
+    List FileUse → OutletState → OutletState → OutletState → OutletState → Type 0
+LeavesWith None names_from asked status used used' out out' err err' =
+    LeavesAsked names_from asked status used used' out out' err err'
+LeavesWith (Some folder) names_from asked status used used' out out' err err' =
+    LeavesDocuments folder names_from asked status used used' out out' err err'
+    ⊎ (RefusesName asked.jobs status err err' × (out' ≡ out) × (used' ≡ used))
+
 -- the jobs to which a list of these bytes leads are checked, or the list is refused, no line is written and nothing
 -- more read
 abbrev pub LeavesFound : Bool → Option (List ℕ) → List ℕ → Asked → Status → List FileUse → List FileUse →
     OutletState → OutletState → OutletState → OutletState → Type 0
 LeavesFound allows_empty names_from names asked status used used' out out' err err' =
     (IsFalse (is_refused_list allows_empty names asked.jobs)
-    × LeavesAsked names_from asked status used used' out out' err err')
+    × LeavesWith asked.telling.documents names_from asked status used used' out out' err err')
     ⊎ (IsTrue (is_refused_list allows_empty names asked.jobs)
     × RefusesList (path_of names_from) (list_fault names) status err err' × (out' ≡ out) × (used' ≡ used))
 

@@ -1,5 +1,6 @@
 pub mod Checks
 pub mod Comparisons
+pub mod Documents
 pub mod DrawnJobs
 pub mod GoldenJobs
 pub mod Inputs

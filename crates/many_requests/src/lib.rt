@@ -2,6 +2,7 @@
 #![tactic(auto)]
 
 mod compared_jobs;
+mod documents;
 mod drawn_jobs;
 mod golden_jobs;
 mod inputs;

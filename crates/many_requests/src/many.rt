@@ -1,13 +1,14 @@
 //! A check of many jobs by request, on files.
 ghost use Rattle.std.specs.Prelude.{◌≡◌, ◌≢◌, ◌++◌, [], List, ℕ, Contains, IfErr, IfOk, IsFalse};
-ghost use Rattle.std.specs.Prelude.{OnOk, map, option_map, string_bytes};
+ghost use Rattle.std.specs.Prelude.{OnOk, Some, map, option_map, string_bytes};
 ghost use Rattle.requests.specs.ManyWords.{NamesPrinter};
 ghost use Rattle.many_requests.specs.Checks.{IsTelling, LeavesAsked, LeavesChecks, LeavesFound};
-ghost use Rattle.many_requests.specs.Checks.{ReadsFleets, asking};
+ghost use Rattle.many_requests.specs.Checks.{LeavesWith, ReadsFleets, asking};
 ghost use Rattle.many_requests.specs.Names.{names_in};
 ghost use Rattle.many_jobs.specs.Asked.{asked_for, told_by};
 ghost use Rattle.many_jobs.specs.FleetFile.{TellsOfFleet};
 
+use crate::documents::{refuse_names, write_documents};
 use crate::inputs::refuse_inputs;
 use crate::lists::{is_refused_list, list_fault, path_of, refuse_list};
 use crate::names::{push_names, read_names};
@@ -17,12 +18,12 @@ use meanings::EXPLANATIONS;
 use named_inputs::{FileJobs, FileTexts, ProfileTexts};
 use requests::{Form, ManyWords, Status};
 use std::alloc::{AllocError, Global};
-use std::io::Input;
+use std::io::{Input, Print};
 use std::rt::Files;
 use streams::{Error, FilesUsed, Outlet};
 
 /// Checks many jobs. The fleets are read first, then the names of the jobs, then the profiles.
-pub fn check_asked<R: Files + Input + AllocGlobal, O: Outlet, E: Outlet>(
+pub fn check_asked<R: Files + Input + Print + AllocGlobal, O: Outlet, E: Outlet>(
     rt: &R,
     words: &ManyWords<'_>,
     used: &mut FilesUsed,
@@ -53,7 +54,7 @@ pub fn check_asked<R: Files + Input + AllocGlobal, O: Outlet, E: Outlet>(
     let Ok(jobs) = all_jobs(alloc, words.jobs.as_slice(), names.as_slice()) else {
         return Status::Stopped(Error::Memory);
     };
-    let Ok(pipes) = pipes_in(rt, words.form, jobs.as_slice()) else {
+    let Ok(pipes) = pipes_in(rt, words, jobs.as_slice()) else {
         return Status::Stopped(Error::Memory);
     };
     let many = ManyJobs {
@@ -69,7 +70,7 @@ pub fn check_asked<R: Files + Input + AllocGlobal, O: Outlet, E: Outlet>(
 
 /// Checks all jobs that are asked for, unless the list of their names is refused, which has these
 /// bytes.
-fn check_found<'r, R: Files + Input + AllocGlobal, O: Outlet, E: Outlet>(
+fn check_found<'r, R: Files + Input + Print + AllocGlobal, O: Outlet, E: Outlet>(
     rt: &'r R,
     words: &ManyWords<'_>,
     names: &[u8],
@@ -90,7 +91,57 @@ fn check_found<'r, R: Files + Input + AllocGlobal, O: Outlet, E: Outlet>(
         let path = path_of(words.names_from);
         return refuse_list(rt.alloc(), path, list_fault(names), stderr);
     }
-    check_all(rt, words.names_from, many, used, stdout, stderr)
+    check_with_documents(rt, words.names_from, many, used, stdout, stderr)
+}
+
+/// Checks all jobs that are asked for, and writes their documents, where a folder is to have them.
+/// `names_from` is the file of their names.
+fn check_with_documents<'r, R: Files + Input + Print + AllocGlobal, O: Outlet, E: Outlet>(
+    rt: &'r R,
+    names_from: Option<&str>,
+    many: &ManyJobs<'_, 'r>,
+    used: &mut FilesUsed,
+    stdout: &mut O,
+    stderr: &mut E,
+) -> Status
+    requires stdout { IsFalse (O.state stdout.old).failed }
+    requires stderr { IsFalse (E.state stderr.old).failed }
+    requires some { many.now.printers.now ≢ [] }
+    ensures { LeavesWith (asked_for many.now).telling.documents
+        (option_map (λ path. path.now) names_from.entry) (asked_for many.now)
+        result used.old used.new (O.state stdout.old) (O.state stdout.new)
+        (E.state stderr.old) (E.state stderr.new) }
+{
+    match many.telling.documents {
+        None => check_all(rt, names_from, many, used, stdout, stderr),
+        Some(folder) => check_into(rt, folder, names_from, many, used, stdout, stderr),
+    }
+}
+
+/// Checks all jobs that are asked for, and writes their documents in a folder. `names_from` is the
+/// file of their names.
+fn check_into<'r, R: Files + Input + Print + AllocGlobal, O: Outlet, E: Outlet>(
+    rt: &'r R,
+    folder: &str,
+    names_from: Option<&str>,
+    many: &ManyJobs<'_, 'r>,
+    used: &mut FilesUsed,
+    stdout: &mut O,
+    stderr: &mut E,
+) -> Status
+    requires stdout { IsFalse (O.state stdout.old).failed }
+    requires stderr { IsFalse (E.state stderr.old).failed }
+    requires some { many.now.printers.now ≢ [] }
+    ensures { LeavesWith (Some folder.now)
+        (option_map (λ path. path.now) names_from.entry) (asked_for many.now)
+        result used.old used.new (O.state stdout.old) (O.state stdout.new)
+        (E.state stderr.old) (E.state stderr.new) }
+{
+    if let Some(status) = refuse_names(rt.alloc(), many.jobs, stderr) {
+        return status;
+    }
+    let answer = check_all(rt, names_from, many, used, stdout, stderr);
+    write_documents(rt, folder, many, answer, used, stderr)
 }
 
 /// Checks all jobs that are asked for, unless one would be read again that can be read only once.
@@ -183,11 +234,11 @@ fn all_jobs<'n>(
 /// The jobs whose bytes are gone once they are read, where a document would have their pages.
 fn pipes_in<'n, R: Files + AllocGlobal>(
     rt: &R,
-    form: Form,
+    words: &ManyWords<'_>,
     jobs: &[&'n [u8]],
 ) -> Result<Vec<&'n [u8]>, AllocError> {
     let mut pipes = Vec::new(rt.alloc());
-    if form != Form::Html {
+    if words.form != Form::Html && words.documents.is_none() {
         return Ok(pipes);
     }
     for job in jobs {
@@ -199,7 +250,7 @@ fn pipes_in<'n, R: Files + AllocGlobal>(
 }
 
 /// How it is told what came of a job, where these can be read only once.
-fn telling_of<'t>(alloc: Global, words: &ManyWords<'_>, read_once: &'t [&'t [u8]]) -> Telling<'t>
+fn telling_of<'t>(alloc: Global, words: &ManyWords<'t>, read_once: &'t [&'t [u8]]) -> Telling<'t>
     ensures { IsTelling (asking (map (λ text. text.now) EXPLANATIONS) words.now) (told_by result) }
 {
     let format = match words.form {
@@ -215,5 +266,6 @@ fn telling_of<'t>(alloc: Global, words: &ManyWords<'_>, read_once: &'t [&'t [u8]
         exit_zero: words.exit_zero,
         passes_unchecked: words.passes_unchecked,
         read_once,
+        documents: words.documents,
     }
 }

@@ -64,9 +64,9 @@ is_in_frame paper band row =
     pixel_units row.resolution == pixel_units band.resolution && frame_left row == band.left
     && frame_width paper row.resolution == band.width
 
--- whether there is room for a row behind so many bytes: an image of more than one row has at most 16,384
+-- whether there is room for a row behind so many bytes: an image of more than one row has at most 262,144
 abbrev pub has_room : Band → (kept : ℕ) → Bool
-has_room band kept = nat_le band.width (16_384 - kept)
+has_room band kept = nat_le band.width (262_144 - kept)
 
 -- whether a row goes on with a band of so many bytes: it lies right below it
 abbrev pub goes_below : Geometry → Band → (kept : ℕ) → PixelRow → Bool

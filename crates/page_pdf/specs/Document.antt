@@ -209,20 +209,21 @@ label_told words pdf = next_of (label_body pdf.page words) pdf
 unfoldable pub page_told : PageSheet → (words : List ℕ) → Pdf → Written
 page_told sheet words pdf = and_then (sheet_told sheet pdf) (label_told words)
 
--- its end, with these words of its label
-unfoldable pub page_closed : PageSheet → (words : List ℕ) → Pdf → Written
-page_closed sheet words pdf =
-    and_then (and_then (writes (page_end pdf.page sheet.is_proof) pdf) marks_ended) (page_told sheet words)
+-- its end, with these words of its label; the verdict may be told on it
+unfoldable pub page_closed : PageSheet → (is_told : Bool) → (words : List ℕ) → Pdf → Written
+page_closed sheet is_told words pdf =
+    and_then (and_then (writes (page_end sheet.paper pdf.page sheet.is_proof is_told) pdf) marks_ended)
+    (page_told sheet words)
 
 -- the end of a page that is printed so
 unfoldable pub end_written : PageSheet → PageEnd → Pdf → Written
-end_written sheet end pdf = and_then (page_ready sheet pdf) (page_closed sheet (end_words end))
+end_written sheet end pdf = and_then (page_ready sheet pdf) (page_closed sheet false (end_words end))
 
 -- the end of one on which the job fails
 unfoldable pub failure_written : PageSheet → (x y : ℤ) → (sentence : List ℕ) → Pdf → Written
 failure_written sheet x y sentence pdf =
     and_then (and_then (page_ready sheet pdf) (writes (failed_text sheet.paper x y sentence)))
-    (page_closed sheet failing_words)
+    (page_closed sheet true failing_words)
 
 -- the next page of the job
 abbrev pub page_behind : Pdf → Pdf

@@ -27,10 +27,11 @@ content_start number =
 abbrev pub content_end : List ℕ
 content_end = object_part parts.ContentEnd
 
--- a page of these sides, which the object of this number marks
+-- a page of these sides, which the object of this number marks; the zero of its box is its upper left corner, from
+-- which patterns are counted, too
 unfoldable pub page_body : Geometry → (content : ℕ) → List ℕ
 page_body page content =
-    object_part parts.Page ++ points page.page_width ++ object_part parts.PageHeight ++ points page.page_height
+    object_part parts.Page ++ points page.page_height ++ object_part parts.PageWidth ++ points page.page_width
     ++ object_part parts.PageContent ++ decimal content ++ object_part parts.PageEnd
 
 -- how it is printed

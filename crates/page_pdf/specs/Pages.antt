@@ -11,10 +11,6 @@ use Rattle.page_pdf.specs.PageParts.{page_part}
 
 -- ---- before the marks
 
--- the unit, and where it is counted from
-unfoldable pub setting_text : Geometry → List ℕ
-setting_text page = page_part parts.Start ++ points page.page_height ++ page_part parts.StartEnd
-
 -- the logical page, dashed
 unfoldable pub logical_text : Geometry → List ℕ
 logical_text page =
@@ -35,20 +31,30 @@ outlines_text page = logical_text page ++ printable_text page
 abbrev pub due_outlines : Geometry → (is_proof : Bool) → List ℕ
 due_outlines page is_proof = if is_proof then outlines_text page else []
 
+-- the unit, which is counted from the upper left corner, where the box of a page has its zero; and the outlines
 abbrev pub page_start : Geometry → (is_proof : Bool) → List ℕ
-page_start page is_proof = setting_text page ++ due_outlines page is_proof
+page_start page is_proof = page_part parts.Start ++ due_outlines page is_proof
 
 -- ---- behind them
 
+-- the verdict, unless the page tells it elsewhere
+abbrev pub due_verdict : (is_told : Bool) → List ℕ
+due_verdict is_told = if is_told then [] else page_part parts.Verdict
+
+-- where the foot of the page is
+unfoldable pub foot_place : Geometry → List ℕ
+foot_place page = page_part parts.Foot ++ points page.page_height ++ page_part parts.FootPlace
+
 -- the foot: the verdict, and the number of the page
-unfoldable pub foot_text : ℕ → List ℕ
-foot_text number = page_part parts.Foot ++ decimal number ++ page_part parts.FootEnd
+unfoldable pub foot_text : Geometry → ℕ → (is_told : Bool) → List ℕ
+foot_text page number is_told =
+    foot_place page ++ due_verdict is_told ++ page_part parts.FootNumber ++ decimal number ++ page_part parts.FootEnd
 
-abbrev pub due_foot : ℕ → (is_proof : Bool) → List ℕ
-due_foot number is_proof = if is_proof then foot_text number else []
+abbrev pub due_foot : Geometry → ℕ → (is_proof is_told : Bool) → List ℕ
+due_foot page number is_proof is_told = if is_proof then foot_text page number is_told else []
 
-unfoldable pub page_end : ℕ → (is_proof : Bool) → List ℕ
-page_end number is_proof = page_part parts.End ++ due_foot number is_proof
+unfoldable pub page_end : Geometry → ℕ → (is_proof is_told : Bool) → List ℕ
+page_end page number is_proof is_told = page_part parts.End ++ due_foot page number is_proof is_told
 
 -- ---- where a job fails
 

@@ -27,7 +27,7 @@ use std::alloc::{AllocError, Allocator};
 use tick_length::Length;
 
 /// How many bytes of pixels an image of more than one row has at most.
-const ROOM: usize = 16_384;
+const ROOM: usize = 262_144;
 
 /// Rows of a raster of one resolution that lie right below one another.
 #[derive(Clone, Copy)]

@@ -456,18 +456,19 @@ impl<A: Allocator + Copy> Document<A> {
         self.written.saturating_sub(self.begun)
     }
 
-    /// Writes what stands behind the marks of a page.
+    /// Writes what stands behind the marks of a page, which may tell the verdict.
     fn push_end_of_marks<B: Allocator>(
         &mut self,
         text: &mut Vec<u8, B>,
         sheet: &PageSheet,
+        is_told: bool,
     ) -> Result<(), AllocError>
         ensures { OnOk result (HasWritten
-            (writes (page_end self.old.page sheet.now.is_proof) self.old)
+            (writes (page_end sheet.now.paper self.old.page sheet.now.is_proof is_told) self.old)
             text.old.items text.new.items self.new) }
     {
         let old_len = text.len();
-        push_page_end(text, self.page(), sheet.is_proof)?;
+        push_page_end(text, &sheet.paper, self.page(), sheet.is_proof, is_told)?;
         self.count(old_len, text);
         Ok(())
     }
@@ -525,17 +526,18 @@ impl<A: Allocator + Copy> Document<A> {
         self.tell_label(text, words)
     }
 
-    /// Ends a page, with these words of its label.
+    /// Ends a page, with these words of its label. The verdict may be told on it.
     fn close_page<B: Allocator>(
         &mut self,
         text: &mut Vec<u8, B>,
         sheet: &PageSheet,
+        is_told: bool,
         words: &[u8],
     ) -> Result<(), AllocError>
-        ensures { OnOk result (HasWritten (page_closed sheet.now words.now self.old)
+        ensures { OnOk result (HasWritten (page_closed sheet.now is_told words.now self.old)
             text.old.items text.new.items self.new) }
     {
-        self.push_end_of_marks(text, sheet)?;
+        self.push_end_of_marks(text, sheet, is_told)?;
         self.end_marks(text)?;
         self.tell_page(text, sheet, words)
     }
@@ -553,7 +555,7 @@ impl<A: Allocator + Copy> Document<A> {
         let mut words = Vec::new(self.alloc());
         push_end_words(&mut words, end)?;
         self.make_ready(text, sheet)?;
-        self.close_page(text, sheet, words.as_slice())
+        self.close_page(text, sheet, false, words.as_slice())
     }
 
     /// Writes why a job fails.
@@ -588,7 +590,7 @@ impl<A: Allocator + Copy> Document<A> {
     {
         self.make_ready(text, sheet)?;
         self.push_why(text, sheet, spot, sentence)?;
-        self.close_page(text, sheet, ObjectPart::LabelFails.bytes())
+        self.close_page(text, sheet, true, ObjectPart::LabelFails.bytes())
     }
 
     /// Goes on to the next page of the job.

@@ -17,10 +17,10 @@ pub(crate) enum ObjectPart {
     ContentStream,
     /// Behind that.
     ContentEnd,
-    /// Before the sides of a page.
+    /// Before the sides of a page, the height first: the zero of its box is its upper left corner.
     Page,
     /// Between them.
-    PageHeight,
+    PageWidth,
     /// Before the number of what marks it.
     PageContent,
     /// Behind it.
@@ -102,9 +102,9 @@ impl ObjectPart {
             ObjectPart::ContentStart => b"<</Length ",
             ObjectPart::ContentStream => b" 0 R>>\nstream\n",
             ObjectPart::ContentEnd => b"\nendstream\nendobj\n",
-            ObjectPart::Page => b"<</Type/Page/Parent 2 0 R/Resources 5 0 R/MediaBox[0 0 ",
-            ObjectPart::PageHeight => b" ",
-            ObjectPart::PageContent => b"]/Contents ",
+            ObjectPart::Page => b"<</Type/Page/Parent 2 0 R/Resources 5 0 R/MediaBox[0 -",
+            ObjectPart::PageWidth => b" ",
+            ObjectPart::PageContent => b" 0]/Contents ",
             ObjectPart::PageEnd => b" 0 R>>",
             ObjectPart::Label => b"<</P(",
             ObjectPart::LabelCopies => b": copies ",

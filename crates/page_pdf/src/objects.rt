@@ -77,9 +77,9 @@ pub(crate) fn push_page_body<A: Allocator>(
     ensures { OnOk result (text.new.items ≡ text.old.items ++ page_body page.now content) }
 {
     text.extend_from_slice(ObjectPart::Page.bytes())?;
-    push_points(text, page.page_width)?;
-    text.extend_from_slice(ObjectPart::PageHeight.bytes())?;
     push_points(text, page.page_height)?;
+    text.extend_from_slice(ObjectPart::PageWidth.bytes())?;
+    push_points(text, page.page_width)?;
     text.extend_from_slice(ObjectPart::PageContent.bytes())?;
     push_number(text, content)?;
     text.extend_from_slice(ObjectPart::PageEnd.bytes())

@@ -3,18 +3,23 @@
 /// A part that stands for itself.
 #[derive(Clone, Copy)]
 pub(crate) enum PagePart {
-    /// Before the height of a page: its unit is 1/7200 inch, down from the upper edge.
+    /// Before the marks: the unit is 1/7200 inch, down from the upper edge, and lines are round at
+    /// their ends.
     Start,
-    /// Behind it: lines are round at their ends.
-    StartEnd,
     /// Before the logical page, dashed.
     Logical,
     /// Before the printable area, thin.
     Printable,
     /// Behind the marks, or a sentence.
     End,
-    /// Before the number of a page at its foot, with the verdict.
+    /// Before the height of a page: at its foot stands what follows.
     Foot,
+    /// Behind it.
+    FootPlace,
+    /// The verdict.
+    Verdict,
+    /// Before the number of the page.
+    FootNumber,
     /// Behind it.
     FootEnd,
     /// Before the place where a job fails.
@@ -41,13 +46,15 @@ impl PagePart {
         ensures { result.now ≡ page_part self }
     {
         match self {
-            PagePart::Start => b"q .01 0 0 -.01 0 ",
-            PagePart::StartEnd => b" cm 1 J\n",
+            PagePart::Start => b"q .01 0 0 -.01 0 0 cm 1 J\n",
             PagePart::Logical => b"q .5 G 48 w [240] 0 d ",
             PagePart::Printable => b"q .5 G 24 w ",
             PagePart::End => b"Q\n",
-            PagePart::Foot => b"/V Do BT /F1 6 Tf 18 8 Td (page ",
-            PagePart::FootEnd => b") Tj ET\n",
+            PagePart::Foot => b"q 1 0 0 1 0 -",
+            PagePart::FootPlace => b" cm ",
+            PagePart::Verdict => b"/V Do ",
+            PagePart::FootNumber => b"BT /F1 6 Tf 18 8 Td (page ",
+            PagePart::FootEnd => b") Tj ET Q\n",
             PagePart::Failure => b"q 1 0 0 RG 72 w 1 0 0 1 ",
             PagePart::FailureEnd => b"cm -480 -480 m 480 480 l -480 480 m 480 -480 l S Q\n",
             PagePart::Sentence => b"q 1 0 0 rg BT /F1 1 Tf ",

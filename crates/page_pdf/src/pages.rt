@@ -4,8 +4,10 @@ ghost use Rattle.page_pdf.specs.Pages.{
   above_foot,
   due_foot,
   due_outlines,
+  due_verdict,
   failed_text,
   failure_text,
+  foot_place,
   foot_text,
   logical_text,
   outlines_text,
@@ -15,7 +17,6 @@ ghost use Rattle.page_pdf.specs.Pages.{
   sentence_place,
   sentence_size,
   sentence_text,
-  setting_text,
 };
 
 use crate::figures::{push_box, push_figure, push_length, push_points, push_ticks};
@@ -41,18 +42,8 @@ pub(crate) fn push_page_start<A: Allocator>(
 ) -> Result<(), AllocError>
     ensures { OnOk result (text.new.items ≡ text.old.items ++ page_start page.now is_proof) }
 {
-    push_setting(text, page)?;
-    push_due_outlines(text, page, is_proof)
-}
-
-/// Appends the unit, and where it is counted from.
-#[tactic(auto, unfolding(crate::specs::Pages::setting_text))]
-fn push_setting<A: Allocator>(text: &mut Vec<u8, A>, page: &Geometry) -> Result<(), AllocError>
-    ensures { OnOk result (text.new.items ≡ text.old.items ++ setting_text page.now) }
-{
     text.extend_from_slice(PagePart::Start.bytes())?;
-    push_points(text, page.page_height)?;
-    text.extend_from_slice(PagePart::StartEnd.bytes())
+    push_due_outlines(text, page, is_proof)
 }
 
 /// Appends the logical page and the printable area.
@@ -105,12 +96,40 @@ fn push_printable<A: Allocator>(text: &mut Vec<u8, A>, page: &Geometry) -> Resul
 
 // ---- behind them
 
-/// Appends the foot: the verdict, and the number of the page.
-#[tactic(auto, unfolding(crate::specs::Pages::foot_text))]
-fn push_foot<A: Allocator>(text: &mut Vec<u8, A>, number: u64) -> Result<(), AllocError>
-    ensures { OnOk result (text.new.items ≡ text.old.items ++ foot_text number) }
+/// Appends the verdict, unless the page tells it elsewhere.
+fn push_due_verdict<A: Allocator>(text: &mut Vec<u8, A>, is_told: bool) -> Result<(), AllocError>
+    ensures { OnOk result (text.new.items ≡ text.old.items ++ due_verdict is_told) }
+{
+    if is_told {
+        return Ok(());
+    }
+    text.extend_from_slice(PagePart::Verdict.bytes())
+}
+
+/// Appends where the foot of a page is.
+#[tactic(auto, unfolding(crate::specs::Pages::foot_place))]
+fn push_foot_place<A: Allocator>(text: &mut Vec<u8, A>, page: &Geometry) -> Result<(), AllocError>
+    ensures { OnOk result (text.new.items ≡ text.old.items ++ foot_place page.now) }
 {
     text.extend_from_slice(PagePart::Foot.bytes())?;
+    push_points(text, page.page_height)?;
+    text.extend_from_slice(PagePart::FootPlace.bytes())
+}
+
+/// Appends the foot: the verdict, and the number of the page.
+#[tactic(auto, unfolding(crate::specs::Pages::foot_text))]
+fn push_foot<A: Allocator>(
+    text: &mut Vec<u8, A>,
+    page: &Geometry,
+    number: u64,
+    is_told: bool,
+) -> Result<(), AllocError>
+    ensures { OnOk result
+        (text.new.items ≡ text.old.items ++ foot_text page.now number is_told) }
+{
+    push_foot_place(text, page)?;
+    push_due_verdict(text, is_told)?;
+    text.extend_from_slice(PagePart::FootNumber.bytes())?;
     push_number(text, number)?;
     text.extend_from_slice(PagePart::FootEnd.bytes())
 }
@@ -118,28 +137,35 @@ fn push_foot<A: Allocator>(text: &mut Vec<u8, A>, number: u64) -> Result<(), All
 /// Appends the foot, where it is asked for.
 fn push_due_foot<A: Allocator>(
     text: &mut Vec<u8, A>,
+    page: &Geometry,
     number: u64,
     is_proof: bool,
+    is_told: bool,
 ) -> Result<(), AllocError>
-    ensures { OnOk result (text.new.items ≡ text.old.items ++ due_foot number is_proof) }
+    ensures { OnOk result
+        (text.new.items ≡ text.old.items ++ due_foot page.now number is_proof is_told) }
 {
     if !is_proof {
         return Ok(());
     }
-    push_foot(text, number)
+    push_foot(text, page, number, is_told)
 }
 
-/// Appends what stands behind the marks of the page of this number.
+/// Appends what stands behind the marks of the page of this number, which may tell the verdict
+/// elsewhere.
 #[tactic(auto, unfolding(crate::specs::Pages::page_end))]
 pub(crate) fn push_page_end<A: Allocator>(
     text: &mut Vec<u8, A>,
+    page: &Geometry,
     number: u64,
     is_proof: bool,
+    is_told: bool,
 ) -> Result<(), AllocError>
-    ensures { OnOk result (text.new.items ≡ text.old.items ++ page_end number is_proof) }
+    ensures { OnOk result
+        (text.new.items ≡ text.old.items ++ page_end page.now number is_proof is_told) }
 {
     text.extend_from_slice(PagePart::End.bytes())?;
-    push_due_foot(text, number, is_proof)
+    push_due_foot(text, page, number, is_proof, is_told)
 }
 
 // ---- where a job fails

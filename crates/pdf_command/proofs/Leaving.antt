@@ -1,80 +1,176 @@
 -- Lemmas on what `pdf` leaves.
-use Rattle.std.proofs.Common.{◌≡◌, inl, inr, ℕ, Bool, List, ◌∷◌, [], Option, refl, map, ap, ◌∙◌, subst, IsFalse}
+use Rattle.std.proofs.Common.{◌≡◌, inl, inr, ℕ, Bool, true, false, List, Option, refl, ap, sym, IsFalse}
+use Rattle.std.specs.Prelude.{◌&&◌, not}
+use Rattle.device_profile.specs.declared.panel.Panel.{Panel}
 use Rattle.device_profile.specs.Printer.{Printer}
-use Rattle.job_reports.specs.Groups.{Groups}
+use Rattle.job_pdf.specs.Plan.{Plan}
 use Rattle.named_inputs.specs.Choices.{TellsOfChoice}
 use Rattle.named_inputs.specs.Fleet.{IsEndOfProfile}
-use Rattle.pdf_command.specs.Pdf.{LeavesPdf, LeavesPdfOf}
+use Rattle.pdf_command.specs.declared.command.PdfEnd.{PdfEnd}
+use Rattle.pdf_command.specs.Pdf.{Around, DrawsBy, DrawsOrStops, DrawsPages, EndsBefore, IsEndOfPages, IsUndrawn, IsUnsearched, IsUntouched}
+use Rattle.pdf_command.specs.Pdf.{LeavesPdfBy, LeavesPdfOf, first_wanted, search_of}
+use Rattle.picture_command.proofs.Commands.{search_writes}
+use Rattle.renderings.specs.Expected.{Rendering}
 use Rattle.requests.specs.declared.choices.Choice.{Choice}
 use Rattle.requests.specs.declared.selection.Selection.{Selection}
 use Rattle.requests.specs.declared.status.Status.{Status}
 use Rattle.requests.specs.declared.status.Status.TheVariants.{Pass, Fail, Help, Usage, Overwrites, NotAllowed, Told, Profile, Stopped}
+use Rattle.requests.specs.Status.{IsEndOfOpening, is_answer, is_refusal, is_refused_choice, is_stop_of_write}
 use Rattle.streams.specs.declared.error.Error.TheVariants.{Memory, Read, Write, Turns, NoProfile, Items}
-use Rattle.streams.specs.Outlet.{OutletState}
+use Rattle.streams.specs.Outlet.{OutletState, Stays}
 use Rattle.streams.specs.Source.{SourceState}
-use Rattle.subcommands.specs.JobTexts.{EndsBy}
-use Rattle.subcommands.proofs.Leaves.{Stays-none}
 
--- the names of a group are those of its texts
-pub names_of : {X : Type 0} (bytes : X → List ℕ) (items slice : List X) (name : List ℕ) (group : Groups) → group.names ≡ map bytes slice →
-    slice ≡ items → map bytes items ≡ name ∷ [] → group.names ≡ name ∷ []
-names_of bytes items slice name group are same named = are ∙ (ap (map bytes) same ∙ named)
+-- ---- the end before the document
 
-module _ (IsPrinter : Printer → List ℕ → Type 0) (choices : List Choice) (selection : Selection) (is_proof : Bool) (name : List ℕ) where
-  -- what was left of a document was left where the panel may have each choice
-  pub pdf_left : (status : Status) (job job' : SourceState) (old new start end : OutletState) →
-      LeavesPdfOf status IsPrinter choices selection is_proof name job job' old new start end →
-      LeavesPdf status IsPrinter choices selection is_proof name job job' old new start end
-  pdf_left Pass job job' old new start end left = left
-  pdf_left Fail job job' old new start end left = left
-  pdf_left Help job job' old new start end left = left
-  pdf_left Usage job job' old new start end left = left
-  pdf_left (Overwrites input) job job' old new start end left = left
-  pdf_left (NotAllowed choice) job job' old new start end left = absurd left.left
-  pdf_left (Told trouble) job job' old new start end left = left
-  pdf_left (Profile number line cause) job job' old new start end left = absurd left.left
-  pdf_left (Stopped error) job job' old new start end left = inr left
+module _ (search : Rendering) (selection : Selection) (job job' : SourceState) (err err' : OutletState) where
+  -- no write failed
+  pub before_writes : (lacks : Bool) (status : Status) → EndsBefore lacks status search selection job job' err err' →
+      false ≡ is_stop_of_write status
+  before_writes true status ends = ap is_stop_of_write (sym ends.0)
+  before_writes false Pass ends = absurd ends
+  before_writes false Fail ends = absurd ends
+  before_writes false Help ends = absurd ends
+  before_writes false Usage ends = absurd ends
+  before_writes false (Overwrites input) ends = absurd ends
+  before_writes false (NotAllowed choice) ends = absurd ends
+  before_writes false (Told trouble) ends = absurd ends
+  before_writes false (Profile number line cause) ends = absurd ends
+  before_writes false (Stopped error) ends = search_writes error ends.0
 
-  -- where the profile is not had, nothing was written
-  pub no_pdf : (number : ℕ) (text : Option (List ℕ)) (status : Status) (job : SourceState) (a b : OutletState) →
-      IsEndOfProfile number text status → LeavesPdf status IsPrinter choices selection is_proof name job job a a b b
-  no_pdf number text (Profile refused line cause) job a b end = ((refl, Stays-none a), Stays-none b)
-  no_pdf number text (Stopped error) job a b end = inl ((refl, Stays-none a), Stays-none b)
-  no_pdf number text Pass job a b end = absurd end
-  no_pdf number text Fail job a b end = absurd end
-  no_pdf number text Help job a b end = absurd end
-  no_pdf number text Usage job a b end = absurd end
-  no_pdf number text (Overwrites input) job a b end = absurd end
-  no_pdf number text (NotAllowed choice) job a b end = absurd end
-  no_pdf number text (Told trouble) job a b end = absurd end
+  -- nothing is refused
+  pub before_refuses : (lacks : Bool) (status : Status) → EndsBefore lacks status search selection job job' err err' →
+      IsFalse (is_refusal status)
+  before_refuses true status ends = ap is_refusal ends.0
+  before_refuses false Pass ends = absurd ends
+  before_refuses false Fail ends = absurd ends
+  before_refuses false Help ends = absurd ends
+  before_refuses false Usage ends = absurd ends
+  before_refuses false (Overwrites input) ends = absurd ends
+  before_refuses false (NotAllowed choice) ends = absurd ends
+  before_refuses false (Told trouble) ends = absurd ends
+  before_refuses false (Profile number line cause) ends = absurd ends
+  before_refuses false (Stopped error) ends = refl
 
-  -- nor where a choice is refused
-  pub choice_refused : (status : Status) (printer : Printer) (choice : Choice) (told told' : OutletState) (job : SourceState)
-      (a b : OutletState) (read_failed write_failed : Bool) →
-      IsFalse read_failed → IsFalse write_failed → TellsOfChoice status printer choice told told' →
-      EndsBy status (λ job job'. LeavesPdf status IsPrinter choices selection is_proof name job job' a a b b) job job
-      read_failed write_failed
-  choice_refused (NotAllowed other) printer choice told told' job a b read_failed write_failed no_read no_write line = record {
-    left = ((refl, Stays-none a), Stays-none b);
-    read = no_read;
-    write = no_write;
-    turns = λ is. absurd (subst (λ s. TellsOfChoice s printer choice told told') is line);
-  }
-  choice_refused (Stopped Memory) printer choice told told' job a b read_failed write_failed no_read no_write line = record {
-    left = inl ((refl, Stays-none a), Stays-none b);
-    read = no_read;
-    write = no_write;
-    turns = λ is. absurd (subst (λ s. TellsOfChoice s printer choice told told') is line);
-  }
-  choice_refused (Stopped Read) printer choice told told' job a b read_failed write_failed no_read no_write line = absurd line
-  choice_refused (Stopped Write) printer choice told told' job a b read_failed write_failed no_read no_write line = absurd line
-  choice_refused (Stopped Turns) printer choice told told' job a b read_failed write_failed no_read no_write line = absurd line
-  choice_refused (Stopped NoProfile) printer choice told told' job a b read_failed write_failed no_read no_write line = absurd line
-  choice_refused (Stopped Items) printer choice told told' job a b read_failed write_failed no_read no_write line = absurd line
-  choice_refused Pass printer choice told told' job a b read_failed write_failed no_read no_write line = absurd line
-  choice_refused Fail printer choice told told' job a b read_failed write_failed no_read no_write line = absurd line
-  choice_refused Help printer choice told told' job a b read_failed write_failed no_read no_write line = absurd line
-  choice_refused Usage printer choice told told' job a b read_failed write_failed no_read no_write line = absurd line
-  choice_refused (Overwrites input) printer choice told told' job a b read_failed write_failed no_read no_write line = absurd line
-  choice_refused (Profile number row cause) printer choice told told' job a b read_failed write_failed no_read no_write line = absurd line
-  choice_refused (Told trouble) printer choice told told' job a b read_failed write_failed no_read no_write line = absurd line
+  -- there is no answer from a document
+  pub before_answers : (lacks : Bool) (status : Status) → EndsBefore lacks status search selection job job' err err' →
+      IsFalse (not lacks && is_answer status)
+  before_answers true status ends = refl
+  before_answers false Pass ends = absurd ends
+  before_answers false Fail ends = absurd ends
+  before_answers false Help ends = absurd ends
+  before_answers false Usage ends = absurd ends
+  before_answers false (Overwrites input) ends = absurd ends
+  before_answers false (NotAllowed choice) ends = absurd ends
+  before_answers false (Told trouble) ends = absurd ends
+  before_answers false (Profile number line cause) ends = absurd ends
+  before_answers false (Stopped error) ends = refl
+
+-- ---- the pages
+
+module _ (printer : Printer) (panel : Panel) (plan : Plan) (a : Around) where
+  -- where it ends before the document
+  pub before_left : (lacks : Bool) (status : Status) →
+      EndsBefore lacks status (search_of printer panel plan) (first_wanted plan.selection) a.first a.first' a.err a.err' →
+      IsUndrawn a → DrawsBy lacks status printer panel plan a
+  before_left true status ends undrawn = (ends.0, ends.1, undrawn)
+  before_left false Pass ends undrawn = absurd ends
+  before_left false Fail ends undrawn = absurd ends
+  before_left false Help ends undrawn = absurd ends
+  before_left false Usage ends undrawn = absurd ends
+  before_left false (Overwrites input) ends undrawn = absurd ends
+  before_left false (NotAllowed choice) ends undrawn = absurd ends
+  before_left false (Told trouble) ends undrawn = absurd ends
+  before_left false (Profile number line cause) ends undrawn = absurd ends
+  before_left false (Stopped error) ends undrawn = inl (ends.1, undrawn, ends.2)
+
+  -- where pages are drawn
+  pub pages_left : (status : Status) → DrawsPages status printer panel plan a → DrawsOrStops status printer panel plan a
+  pages_left Pass drawn = drawn
+  pages_left Fail drawn = drawn
+  pages_left Help drawn = drawn
+  pages_left Usage drawn = drawn
+  pages_left (Overwrites input) drawn = drawn
+  pages_left (NotAllowed choice) drawn = drawn
+  pages_left (Told trouble) drawn = drawn
+  pages_left (Profile number line cause) drawn = drawn
+  pages_left (Stopped error) drawn = inr drawn
+
+-- ---- the command
+
+module _ (IsPrinter : Printer → List ℕ → Type 0) (choices : List Choice) (selection : Selection) (is_proof : Bool) (name : List ℕ)
+    (a : Around) where
+  -- where nothing is refused
+  pub left_by : (status : Status) (end : PdfEnd) → IsFalse (is_refusal status) →
+      LeavesPdfOf end IsPrinter choices selection is_proof name a → LeavesPdfBy status end IsPrinter choices selection is_proof name a
+  left_by Pass end answer left = left
+  left_by Fail end answer left = left
+  left_by Help end answer left = left
+  left_by Usage end answer left = left
+  left_by (Overwrites input) end answer left = left
+  left_by (NotAllowed choice) end answer left = absurd cc
+  left_by (Told trouble) end answer left = left
+  left_by (Profile number line cause) end answer left = absurd cc
+  left_by (Stopped error) end answer left = inr left
+
+  -- where the profile is not had nothing was read of the job, and nothing written
+  pub no_printer : (number : ℕ) (text : Option (List ℕ)) (status : Status) (end : PdfEnd) → IsUntouched a →
+      IsEndOfProfile number text status → LeavesPdfBy status end IsPrinter choices selection is_proof name a
+  no_printer at text Pass end untouched told = absurd told
+  no_printer at text Fail end untouched told = absurd told
+  no_printer at text Help end untouched told = absurd told
+  no_printer at text Usage end untouched told = absurd told
+  no_printer at text (Overwrites input) end untouched told = absurd told
+  no_printer at text (NotAllowed choice) end untouched told = absurd told
+  no_printer at text (Told trouble) end untouched told = absurd told
+  no_printer at text (Profile number line cause) end untouched told = untouched
+  no_printer at text (Stopped error) end untouched told = inl untouched
+
+  -- nor where the panel may not have a choice, but for its line
+  pub no_panel : (status : Status) (end : PdfEnd) (printer : Printer) (choice : Choice) → IsUnsearched a →
+      (IsFalse (is_refused_choice status) → Stays a.err a.err') → TellsOfChoice status printer choice a.err a.err' →
+      LeavesPdfBy status end IsPrinter choices selection is_proof name a
+  no_panel Pass end printer choice unsearched quiet line = absurd line
+  no_panel Fail end printer choice unsearched quiet line = absurd line
+  no_panel Help end printer choice unsearched quiet line = absurd line
+  no_panel Usage end printer choice unsearched quiet line = absurd line
+  no_panel (Overwrites input) end printer choice unsearched quiet line = absurd line
+  no_panel (NotAllowed told) end printer choice unsearched quiet line = unsearched
+  no_panel (Told trouble) end printer choice unsearched quiet line = absurd line
+  no_panel (Profile number row cause) end printer choice unsearched quiet line = absurd line
+  no_panel (Stopped Memory) end printer choice unsearched quiet line = inl (unsearched, quiet refl)
+  no_panel (Stopped Read) end printer choice unsearched quiet line = absurd line
+  no_panel (Stopped Write) end printer choice unsearched quiet line = absurd line
+  no_panel (Stopped Turns) end printer choice unsearched quiet line = absurd line
+  no_panel (Stopped NoProfile) end printer choice unsearched quiet line = absurd line
+  no_panel (Stopped Items) end printer choice unsearched quiet line = absurd line
+
+-- ---- how the work on the pages ends
+
+-- it has no profile and no choice to refuse
+pub pages_refuse : (status : Status) → IsEndOfPages status → IsFalse (is_refusal status)
+pages_refuse Pass end = refl
+pages_refuse Fail end = refl
+pages_refuse Help end = absurd end
+pages_refuse Usage end = absurd end
+pages_refuse (Overwrites input) end = refl
+pages_refuse (NotAllowed choice) end = absurd end
+pages_refuse (Told trouble) end = absurd end
+pages_refuse (Profile number line cause) end = absurd end
+pages_refuse (Stopped error) end = refl
+
+-- so it ends where there is no open job beside an OUT that was created
+pub opening_ends : (status : Status) → IsEndOfOpening status → IsEndOfPages status
+opening_ends Pass end = absurd end
+opening_ends Fail end = absurd end
+opening_ends Help end = absurd end
+opening_ends Usage end = absurd end
+opening_ends (Overwrites input) end = tt
+opening_ends (NotAllowed choice) end = absurd end
+opening_ends (Told trouble) end = absurd end
+opening_ends (Profile number line cause) end = absurd end
+opening_ends (Stopped Memory) end = tt
+opening_ends (Stopped Read) end = tt
+opening_ends (Stopped Write) end = tt
+opening_ends (Stopped Turns) end = absurd end
+opening_ends (Stopped NoProfile) end = absurd end
+opening_ends (Stopped Items) end = absurd end

@@ -3,4 +3,4 @@
 
 mod command;
 
-pub use command::{PdfAsked, pdf};
+pub use command::{PdfAsked, PdfEnd, pdf};

@@ -2,4 +2,4 @@ mod Spots
 mod Words
 mod Searches
 mod Endings
-mod Commands
+pub mod Commands

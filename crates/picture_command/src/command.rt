@@ -36,21 +36,21 @@ pub struct PictureAsked<'a> {
     pub selection: Selection,
 }
 
-/// What is drawn: which pages, for which printer and from which panel.
+/// Which pages are searched for, for which printer and from which panel.
 #[derive(Drop)]
-struct Drawn<'d, 'n, A: Allocator> {
-    profile: &'d Profile<A>,
-    panel: Panel,
-    names: Names<'n, A>,
-    selection: Selection,
+pub struct SearchedPages<'d, 'n, A: Allocator> {
+    pub profile: &'d Profile<A>,
+    pub panel: Panel,
+    pub names: Names<'n, A>,
+    pub selection: Selection,
 }
 
 /// What the first reading of a job told: what came of the pages that are wanted, and a text on
 /// that.
 #[derive(Drop)]
-struct Found<A: Allocator> {
-    outcome: Outcome,
-    text: Vec<u8, A>,
+pub struct Found<A: Allocator> {
+    pub outcome: Outcome,
+    pub text: Vec<u8, A>,
 }
 
 /// The command `picture`: pages of the job as pictures on standard output, from the panel of the
@@ -115,7 +115,7 @@ pub fn picture<S: Source, T: ProfileTexts, O: Outlet, E: Outlet, A: Allocator + 
     };
     // Sentences take the names of a group alone.
     let printers = PrinterGroup::new(&[], &[], printer.names.as_slice(), false);
-    let drawn = Drawn {
+    let drawn = SearchedPages {
         profile: &printer.profile,
         panel,
         names: Names {
@@ -132,7 +132,7 @@ fn draw<S: Source, O: Outlet, E: Outlet, A: Allocator + Copy>(
     alloc: A,
     first: &mut S,
     second: &mut S,
-    drawn: &Drawn<'_, '_, A>,
+    drawn: &SearchedPages<'_, '_, A>,
     stdout: &mut O,
     stderr: &mut E,
 ) -> Status
@@ -161,7 +161,7 @@ fn draw<S: Source, O: Outlet, E: Outlet, A: Allocator + Copy>(
         ⊎ HasNoEnd (S.state second.old) (S.state second.new) }
     ensures end { IsFalse (is_refusal result) }
 {
-    let found = match find(alloc, first, drawn) {
+    let found = match find_pages(alloc, first, drawn) {
         Ok(found) => found,
         Err(error) => return Status::Stopped(error),
     };
@@ -176,10 +176,10 @@ fn draw<S: Source, O: Outlet, E: Outlet, A: Allocator + Copy>(
 /// What is told of the pages of a job.
 ///
 /// An error is `Read`, `Memory` or `Turns`.
-fn find<S: Source, A: Allocator + Copy>(
+pub fn find_pages<S: Source, A: Allocator + Copy>(
     alloc: A,
     job: &mut S,
-    drawn: &Drawn<'_, '_, A>,
+    drawn: &SearchedPages<'_, '_, A>,
 ) -> Result<Found<A>, Error>
     requires reading { IsFalse (S.state job.old).failed }
     requires allowed { IsAllowed drawn.now.profile.now drawn.now.panel }
@@ -211,7 +211,7 @@ fn find<S: Source, A: Allocator + Copy>(
 fn draw_found<S: Source, O: Outlet, E: Outlet, A: Allocator + Copy>(
     alloc: A,
     job: &mut S,
-    drawn: &Drawn<'_, '_, A>,
+    drawn: &SearchedPages<'_, '_, A>,
     found: &Found<A>,
     stdout: &mut O,
     stderr: &mut E,
@@ -255,7 +255,7 @@ fn draw_found<S: Source, O: Outlet, E: Outlet, A: Allocator + Copy>(
 }
 
 /// The job does not have the page that is wanted.
-fn is_missing<A: Allocator>(selection: Selection, found: &Found<A>) -> bool
+pub fn is_missing<A: Allocator>(selection: Selection, found: &Found<A>) -> bool
     ensures { result ≡ is_missing selection found.now.text.items found.now.outcome }
 {
     match (selection.pages, found.outcome) {

@@ -6,5 +6,6 @@ mod named_printer;
 mod page_search;
 mod same;
 
-pub use command::{PictureAsked, picture};
+pub use command::{Found, PictureAsked, SearchedPages, find_pages, is_missing, picture};
 pub use named_printer::{NamedPrinter, read_printer};
+pub use page_search::Names;

@@ -32,7 +32,7 @@ use verdict::Failure;
 
 /// Whose pages are searched for, and for which printer: names for sentences.
 #[derive(Drop)]
-pub(crate) struct Names<'n, B: Allocator> {
+pub struct Names<'n, B: Allocator> {
     /// The name of the job.
     pub job: &'n [u8],
     pub printers: &'n PrinterGroup<'n, B>,

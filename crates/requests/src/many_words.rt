@@ -37,4 +37,6 @@ pub struct ManyWords<'a> {
     pub form: Form,
     /// A FAIL and a note get their explanations.
     pub explains: bool,
+    /// The folder that gets a document of the pages of each job.
+    pub documents: Option<&'a str>,
 }

@@ -51,15 +51,18 @@ fn proof() -> PdfAsked<'static> {
     }
 }
 
-/// Runs a subcommand, and tells how it ended.
-fn status_of<H: Allocator + Copy, J: Open, W: Create, O: Outlet, E: Outlet>(
+/// Runs a subcommand, and tells how it ended. One that reads its job twice has it from `first`,
+/// too.
+fn status_of<H: Allocator + Copy, F: Source, J: Open, W: Create, O: Outlet, E: Outlet>(
     command: Command,
     heap: H,
+    first: &mut F,
     job: &mut J,
     out: &mut W,
     stdout: &mut O,
     stderr: &mut E,
 ) -> Status
+    requires first { IsFalse (F.state first.old).failed }
     requires job { IsFalse (J.state job.old).failed }
     requires out { IsFalse (W.state out.old).failed }
     requires stdout { IsFalse (O.state stdout.old).failed }
@@ -80,7 +83,7 @@ fn status_of<H: Allocator + Copy, J: Open, W: Create, O: Outlet, E: Outlet>(
             };
             pin(heap, job, &mut texts, &setting, out, stdout, stderr)
         }
-        Command::Pdf => pdf(heap, job, &mut texts, &proof(), out, stdout, stderr),
+        Command::Pdf => { pdf(heap, first, job, &mut texts, &proof(), out, stdout, stderr).status }
     };
     tell(status, stderr);
     status
@@ -141,6 +144,12 @@ const ROWS: &[(Run, Answer)] = &[
         (Command::Pin, b"\x1bE", (u64::MAX, 0)),
         (3, b"", WRITE, b""),
     ),
+    ((Command::Pdf, b"A\x0c", (1, u64::MAX)), (3, b"", READ, b"")),
+    // A job without a page has no document.
+    (
+        (Command::Pdf, b"\x1bE", SOUND),
+        (1, b"", b"job.pcl: there is no page 1 (pages=0)\n", b""),
+    ),
 ];
 
 /// What came of a run.
@@ -164,16 +173,26 @@ impl Ended {
 /// Does a run with this memory, where so many writes of standard output succeed.
 fn run_of<H: Allocator + Copy>(alloc: Global, heap: H, run: Run, writes: u64) -> Ended {
     let (command, bytes, (reads, out_writes)) = run;
+    let mut first = FailingSource::new(bytes, reads);
     let mut job = File::new(FailingSource::new(bytes, reads));
     let mut out = File::new(FailingOutlet::new(alloc, out_writes));
     let mut stdout = FailingOutlet::new(alloc, writes);
     let mut stderr = FailingOutlet::new(alloc, u64::MAX);
-    let status = status_of(command, heap, &mut job, &mut out, &mut stdout, &mut stderr);
+    let status = status_of(
+        command,
+        heap,
+        &mut first,
+        &mut job,
+        &mut out,
+        &mut stdout,
+        &mut stderr,
+    );
+    let read_failed = first.has_failed() || job.has_failed();
     Ended {
         code: status.code(),
         stdout,
         stderr,
-        have_failed: (job.has_failed(), out.has_failed()),
+        have_failed: (read_failed, out.has_failed()),
         out,
     }
 }

@@ -148,6 +148,7 @@ impl Manner {
             exit_zero: false,
             passes_unchecked: false,
             read_once: &[],
+            documents: None,
         }
     }
 }

@@ -1,11 +1,19 @@
-use Rattle.std.proofs.Common.{◌≡◌, ◌∙◌, Bool, ap, subst}
+use Rattle.std.proofs.Common.{◌≡◌, ◌∙◌, Bool, ℕ, List, Option, Result, ap, subst}
 use Rattle.std.proofs.lemmas.Result.{err_from_is_err_and}
 use Rattle.job_rows.specs.Kept.{kept_part}
+use Rattle.job_rows.specs.Links.{DocumentTold}
+use Rattle.job_rows.specs.Rows.{PartsTold}
+use Rattle.streams.specs.declared.error.Error.{Error}
 use Rattle.many_jobs.specs.Asked.{told_by}
 use Rattle.many_jobs.specs.JobChecks.{AddsTold, CutsTold, ending_of, worse}
-use Rattle.many_jobs.specs.JobRow.{Rereads, ending_of_kept, near_of_job, page_of_job, row_with}
+use Rattle.many_jobs.specs.JobRow.{Rereads, document_of, ending_of_kept, near_of_job, page_of_job, row_with}
 use Rattle.many_jobs.proofs.JobRow.{has_read, row_adds, row_cuts}
 use Rattle.many_jobs.proofs.job_row.tell_row.Goals as goal
+
+-- what is told of a job in its row
+abbrev parts_told : (notes near page : Option (Result (List ℕ) Error)) → (is_once : Bool) → Option DocumentTold → PartsTold
+parts_told notes near page is_once document =
+    record { notes = notes; near = near; page = page; is_once = is_once; document = document }
 
 pub returns-clause-told : goal.returns-clause-told
 returns-clause-told g c =
@@ -33,13 +41,18 @@ returns-clause-told g c =
     let counts : c.worse.result ≡ worse (ending_of telling answer) (ending_of_kept notes) =
     c.worse.ensures ∙ ap (λ e. worse e c.of_notes-noted.result) c.of-judged.ensures
     ∙ ap (worse (ending_of telling answer)) c.of_notes-noted.ensures in
+    let parts = λ (is_once : Bool) (document : Option DocumentTold). parts_told notes near page is_once document in
     let told =
     subst
     (λ (is_once : Bool).
-    AddsTold
-    (λ cause. row_with telling group name answer cause (record { notes = notes; near = near; page = page; is_once = is_once }))
+    AddsTold (λ cause. row_with telling group name answer cause (parts is_once (document_of telling name)))
     (g.O.Outlet.state c.args.stdout.now) (g.O.Outlet.state c.write_row.new.stdout))
-    c.is_read_once-once.ensures c.in_ok-write_row.ensures.told in
+    c.is_read_once-once.ensures
+    (subst
+    (λ (document : Option DocumentTold).
+    AddsTold (λ cause. row_with telling group name answer cause (parts c.is_read_once-once.result document))
+    (g.O.Outlet.state c.args.stdout.now) (g.O.Outlet.state c.write_row.new.stdout))
+    c.document_of-document.ensures c.in_ok-write_row.ensures.told) in
     row_adds group telling (start_of name) name answer notes near page ended third read
     (g.O.Outlet.state c.args.stdout.now) (g.O.Outlet.state c.write_row.new.stdout) c.worse.result counts told
 
@@ -67,13 +80,18 @@ returns-in_err-write_row-clause-cut g c =
     has_read group telling (start_of name) name answer notes near page ended first second third c.reread_notes-notes.ensures.read
     listing drawing in
     let error = c.in_err-write_row.field-0.0 in
+    let parts = λ (is_once : Bool) (document : Option DocumentTold). parts_told notes near page is_once document in
     let cut =
     subst
     (λ (is_once : Bool).
-    CutsTold error
-    (λ cause. row_with telling group name answer cause (record { notes = notes; near = near; page = page; is_once = is_once }))
+    CutsTold error (λ cause. row_with telling group name answer cause (parts is_once (document_of telling name)))
     (g.O.Outlet.state c.args.stdout.now) (g.O.Outlet.state c.write_row.new.stdout))
-    c.is_read_once-once.ensures c.in_err-write_row.ensures.cut in
+    c.is_read_once-once.ensures
+    (subst
+    (λ (document : Option DocumentTold).
+    CutsTold error (λ cause. row_with telling group name answer cause (parts c.is_read_once-once.result document))
+    (g.O.Outlet.state c.args.stdout.now) (g.O.Outlet.state c.write_row.new.stdout))
+    c.document_of-document.ensures c.in_err-write_row.ensures.cut) in
     let ends = err_from_is_err_and c.from_residual.result c.from_residual.ensures.1 in
     rw (ends.1, ends.2)
     (row_cuts group telling (start_of name) name answer notes near page ended third read

@@ -16,4 +16,4 @@ returns-then-is_refused_list g c =
     )
 
 pub returns : goal.returns
-returns g c = inl (sym c.is_refused_list.ensures ∙ c.if-is_refused_list.false, c.check_all.ensures)
+returns g c = inl (sym c.is_refused_list.ensures ∙ c.if-is_refused_list.false, c.check_with_documents.ensures)

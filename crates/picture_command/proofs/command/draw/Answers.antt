@@ -10,9 +10,9 @@ returns-in-Err-clause-left g c = inl ((refl, Stays-none _), Stays-none _, c.in-E
 
 pub returns-in-Err-clause-read : goal.returns-in-Err-clause-read
 returns-in-Err-clause-read g c =
-    ap (λ failed. (g.S.Source.state c.find.new.job).failed || failed) c.requires.second
-    ∙ (or-false (g.S.Source.state c.find.new.job).failed
-    ∙ (c.find.ensures.read
+    ap (λ failed. (g.S.Source.state c.find_pages.new.job).failed || failed) c.requires.second
+    ∙ (or-false (g.S.Source.state c.find_pages.new.job).failed
+    ∙ (c.find_pages.ensures.read
     ∙ ap is_err_of_read c.in-Err.is))
 
 pub returns-in-Err-clause-write : goal.returns-in-Err-clause-write
@@ -40,9 +40,9 @@ returns-then-is_missing-clause-left g c = record {
 
 pub returns-then-is_missing-clause-read : goal.returns-then-is_missing-clause-read
 returns-then-is_missing-clause-read g c =
-    ap (λ failed. (g.S.Source.state c.find.new.job).failed || failed) c.requires.second
-    ∙ (or-false (g.S.Source.state c.find.new.job).failed
-    ∙ (c.find.ensures.read
+    ap (λ failed. (g.S.Source.state c.find_pages.new.job).failed || failed) c.requires.second
+    ∙ (or-false (g.S.Source.state c.find_pages.new.job).failed
+    ∙ (c.find_pages.ensures.read
     ∙ ap is_err_of_read c.in-Ok.is))
 
 pub returns-clause-left : goal.returns-clause-left
@@ -57,7 +57,7 @@ returns-clause-left g c =
 
 pub returns-clause-read : goal.returns-clause-read
 returns-clause-read g c =
-    ap (λ failed. failed || (g.S.Source.state c.draw_found.new.job).failed) (c.find.ensures.read ∙ ap is_err_of_read c.in-Ok.is)
+    ap (λ failed. failed || (g.S.Source.state c.draw_found.new.job).failed) (c.find_pages.ensures.read ∙ ap is_err_of_read c.in-Ok.is)
     ∙ c.draw_found.ensures.read
 
 pub returns-clause-turns : goal.returns-clause-turns

@@ -8,7 +8,7 @@ unfolding page_closed
 returns g c =
     let old = c.args.self.now in
     let sheet = c.args.sheet.now in
-    let end = writes (page_end old.page sheet.is_proof) old in
+    let end = writes (page_end sheet.paper old.page sheet.is_proof c.args.is_told) old in
     let text = c.args.text.now.items in
     let mid = c.end_marks.new.text.items in
     then_written c.tell_page.result (and_then end marks_ended) (page_told sheet c.args.words.now) text mid c.tell_page.new.text.items

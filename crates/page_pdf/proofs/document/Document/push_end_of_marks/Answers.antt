@@ -9,7 +9,8 @@ pub returns : goal.returns
 returns g c =
     let new = c.push_page_end.new.text in
     let old = c.args.text.now.items in
-    let is_proof = c.args.sheet.now.is_proof in
-    subst (λ (page : ℕ). HasWritten (writes (page_end page is_proof) c.args.self.now) old new.items c.count.new.self) c.page.ensures
-    (counted (page_end c.page.result is_proof) old new.items c.args.self.now c.count.new.self c.len-old_len.result (vec_len new)
+    let sheet = c.args.sheet.now in
+    let end = λ (page : ℕ). page_end sheet.paper page sheet.is_proof c.args.is_told in
+    subst (λ (page : ℕ). HasWritten (writes (end page) c.args.self.now) old new.items c.count.new.self) c.page.ensures
+    (counted (end c.page.result) old new.items c.args.self.now c.count.new.self c.len-old_len.result (vec_len new)
     c.in_ok-push_page_end.ensures (c.len-old_len.ensures ∙ c.args.text.now.ok.0) new.ok.0 c.count.ensures)

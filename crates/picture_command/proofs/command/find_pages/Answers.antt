@@ -5,7 +5,7 @@ use Rattle.streams.specs.Errors.{is_read}
 use Rattle.picture_command.specs.PageSearch.{search_rendering}
 use Rattle.picture_command.specs.Picture.{IsErrorOfSearch}
 use Rattle.picture_command.proofs.Commands.{kept_read, kept_stopped, kept_told, kept_turns, search_stops}
-use Rattle.picture_command.proofs.command.find.Goals as goal
+use Rattle.picture_command.proofs.command.find_pages.Goals as goal
 
 pub returns-in-Ok-clause-told : goal.returns-in-Ok-clause-told
 returns-in-Ok-clause-told g c =

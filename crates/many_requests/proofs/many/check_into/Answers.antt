@@ -1,0 +1,24 @@
+use Rattle.std.proofs.Common.{inl, inr, option_map, refl, subst}
+use Rattle.many_jobs.specs.Asked.{asked_for}
+use Rattle.many_requests.specs.Checks.{LeavesAsked}
+use Rattle.many_requests.proofs.many.check_into.Goals as goal
+
+pub returns-in-Some : goal.returns-in-Some
+returns-in-Some g c = inr (c.in-Some.ensures.refused, refl, refl)
+
+pub returns : goal.returns
+returns g c =
+    let told = g.E.Outlet.state c.check_all-answer.new.stderr in
+    inl (record {
+      apart = c.in_default.ensures.apart;
+      answer = c.check_all-answer.result;
+      between = c.check_all-answer.new.used;
+      told = told;
+      checked =
+          subst
+          (λ err. LeavesAsked (option_map (λ path. path.now) c.args.names_from) (asked_for c.args.many.now) c.check_all-answer.result
+          c.args.used.now c.check_all-answer.new.used (g.O.Outlet.state c.args.stdout.now)
+          (g.O.Outlet.state c.check_all-answer.new.stdout) (g.E.Outlet.state err) told)
+          c.in_default.ensures.quiet c.check_all-answer.ensures;
+      written = c.write_documents.ensures;
+    })
