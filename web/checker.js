@@ -33,10 +33,8 @@ const source = URL.createObjectURL(
   new Blob([byId("worker").textContent ?? ""], { type: "text/javascript" }),
 );
 
-/**
- * Bytes that the page has in it.
- * @param {string} id
- */
+// Bytes that the page has in it.
+/** @param {string} id */
 function packedBytes(id) {
   return Uint8Array.from(atob((byId(id).textContent ?? "").trim()), (it) => it.charCodeAt(0));
 }
@@ -134,10 +132,8 @@ export async function start() {
   compiled = await module;
 }
 
-/**
- * Tells how much of a large job is read.
- * @param {(share: number, name: string) => void} tell
- */
+// Tells how much of a large job is read.
+/** @param {(share: number, name: string) => void} tell */
 export function onReading(tell) {
   tellReading = tell;
 }

@@ -8,10 +8,16 @@ import { say } from "./texts.js";
 const PAPERS = [["2", "paper2"], ["26", "paper26"], ["2 26", "paperFree"]];
 
 /** Two jobs to try: the box of the second reaches past the printable area. */
-const BEGIN = "\x1bE\x1b&l0O\x1b(10U\x1b(s0p10h12v0s0b3T\x1b&l8C\x1b*p300x300YTotal\x1b*p300x330Y";
-const EXAMPLES = { "example_1.pcl": "\x1b*c600a30b0P\x1bE", "example_2.pcl": "\x1b*c2400a90b0P\x1bE" };
+const FONT = "\x1b(10U\x1b(s0p10h12v0s0b3T";
+const BEGIN = `\x1bE\x1b&l0O${FONT}\x1b&l8C\x1b*p300x300YTotal\x1b*p300x330Y`;
+const EXAMPLES = {
+  "example_1.pcl": "\x1b*c600a30b0P\x1bE",
+  "example_2.pcl": "\x1b*c2400a90b0P\x1bE",
+};
 
 let pastedCount = 0;
+/** @type {import("./state.js").Own[]} */
+let shownOwn = [];
 
 /** Readies the ways in. */
 export function readyInputs() {
@@ -22,7 +28,7 @@ export function readyInputs() {
     files.value = "";
   };
   byId("try").onclick = () =>
-    addFiles(Object.entries(EXAMPLES).map(([name, rest]) => fileOf(name, BEGIN + rest)));
+    addFiles(Object.entries(EXAMPLES).map(([name, rest]) => new File([BEGIN + rest], name)));
   const pasted = find("textarea", "pasted");
   byId("add-pasted").onclick = () => {
     addText(pasted.value);
@@ -52,16 +58,8 @@ function readyDrop() {
   };
 }
 
-/**
- * @param {string} name
- * @param {string} text
- */
-const fileOf = (name, text) => new File([text], name);
-
-/**
- * Adds a text that was pasted, in which \xNN stands for a byte, as `pclcheck list` writes it.
- * @param {string} text
- */
+// Adds a text that was pasted; \xNN in it is a byte, as in `pclcheck list`.
+/** @param {string} text */
 function addText(text) {
   if (text === "") return;
   const name = say("pastedName", { n: ++pastedCount });
@@ -93,12 +91,13 @@ export function readyPrinters() {
   find("details", "printers").open = printers().length === 0;
 }
 
-/** Shows which printers are chosen, and the profiles that were given. */
+/** Shows which printers are chosen, and the profiles that were given where these are others. */
 export function showPrinters() {
   const names = printers().map(({ name }) => name);
   byId("printers-told").textContent =
     names.length === 0 ? say("printersNone") : say("printersChosen", { names: names.join(", ") });
-  byId("own").replaceChildren(...state.own.map(ownRow));
+  if (shownOwn !== state.own) byId("own").replaceChildren(...state.own.map(ownRow));
+  shownOwn = state.own;
   byId("keeps").hidden = state.keeps;
 }
 
@@ -107,6 +106,7 @@ function ownRow(own) {
   const remove = makeButton(say("remove"), () => {
     state.own = state.own.filter((it) => it !== own);
     changePrinters();
+    byId("choose").focus();
   });
   remove.ariaLabel = say("removeNamed", { name: own.name });
   if (own.fault) {

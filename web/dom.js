@@ -1,10 +1,10 @@
 // @ts-check
 import { say } from "./texts.js";
 
-/**
- * The element of the page that has this id.
- * @param {string} id
- */
+/** @typedef {import("./texts.js").TextName} TextName */
+
+// The element of the page that has this id.
+/** @param {string} id */
 export function byId(id) {
   const found = document.getElementById(id);
   if (!found) throw new Error(id);
@@ -46,11 +46,11 @@ export function makeButton(text, onclick) {
 /** Puts the texts where the page names them, in `data-text` and `data-label`. */
 export function putTexts() {
   for (const element of document.querySelectorAll("[data-text], [data-label]")) {
-    const { text, label } = /** @type {HTMLElement} */ (element).dataset;
-    if (text) element.textContent = say(/** @type {import("./texts.js").TextName} */ (text));
-    if (label) {
-      element.setAttribute("aria-label", say(/** @type {import("./texts.js").TextName} */ (label)));
-    }
+    const { text, label } = /** @type {{ [name: string]: TextName }} */ (
+      /** @type {HTMLElement} */ (element).dataset
+    );
+    if (text) element.textContent = say(text);
+    if (label) element.setAttribute("aria-label", say(label));
   }
 }
 
@@ -65,8 +65,6 @@ export function save(name, content) {
   setTimeout(() => URL.revokeObjectURL(url), 60_000);
 }
 
-/**
- * Why something did not come about.
- * @param {unknown} error
- */
+// Why something did not come about.
+/** @param {unknown} error */
 export const whyOf = (error) => (error instanceof Error ? error.message : String(error));

@@ -3,7 +3,7 @@
 import { ask } from "./checker.js";
 import { byId, find, make, makeButton, save, whyOf } from "./dom.js";
 import { TOGETHER, printers, resultOf, verdict } from "./state.js";
-import { shownJobs } from "./table.js";
+import { focusRow, shownJobs } from "./table.js";
 import { say, valueName } from "./texts.js";
 import { panelOf, showNoPage, showPages } from "./viewer.js";
 
@@ -11,9 +11,9 @@ import { panelOf, showNoPage, showPages } from "./viewer.js";
 /** @typedef {import("./state.js").Printer} Printer */
 /** @typedef {import("./state.js").Result} Result */
 
-const BYTES_BEFORE = 32;
-const BYTES_BEHIND = 64;
-const BYTES_IN_ROW = 16;
+const BYTES_BEFORE = 16;
+const BYTES_BEHIND = 40;
+const BYTES_IN_ROW = 8;
 const VMI_PARTS = 10_000;
 
 /** @type {{ job: Job, key: string } | null} */
@@ -24,6 +24,7 @@ export function readyJob() {
   const dialog = find("dialog", "job");
   byId("job-close").onclick = () => dialog.close();
   dialog.onclose = () => {
+    if (opened) focusRow(opened.job);
     opened = null;
     showNoPage();
   };
@@ -53,10 +54,10 @@ export async function openJob(job, key) {
   showHead(job, key, fleet);
   const one = fleet.find((it) => it.key === key);
   let result = resultOf(job, fleet.length > 1 ? key : TOGETHER);
-  showSentence(job, result);
+  showSentence(result);
   if (result.status === "PASS" && one && fleet.length > 1) result = await verdict(job, [one]);
   if (!isStill() || fleet.length === 0) return;
-  showSentence(job, result);
+  showSentence(result);
   const failing = one || !("printer" in result) ? 0 : Math.max(1, result.printer) - 1;
   const printer = one ?? fleet[failing];
   showDownloads(job, printer);
@@ -69,10 +70,8 @@ export async function openJob(job, key) {
   if (result.status === "PASS") showNotes(job, printer, isStill);
 }
 
-/**
- * Shows a job that is open anew, as its checks have come further.
- * @param {Job | null} job
- */
+// Shows a job that is open anew, as its checks have come further.
+/** @param {Job | null} job */
 export function refreshJob(job) {
   const wasWaiting = byId("sentence").className === "WAITING";
   if (opened && opened.job === job && wasWaiting) openJob(opened.job, opened.key);
@@ -97,11 +96,8 @@ function showHead(job, key, fleet) {
   if (!dialog.open) dialog.showModal();
 }
 
-/**
- * @param {Job} job
- * @param {Result} result
- */
-function showSentence(job, result) {
+/** @param {Result} result */
+function showSentence(result) {
   const told = byId("sentence");
   told.className = result.status;
   told.textContent = result.sentence;
@@ -124,10 +120,8 @@ async function showExplanation(result, isStill) {
   }
 }
 
-/**
- * An explanation: its first line, and the parts below it, which have names.
- * @param {string} text
- */
+// An explanation: its first line, and the parts below it, which have names.
+/** @param {string} text */
 export function explained(text) {
   if (text === "") return [];
   const [title, ...lines] = text.trimEnd().split("\n");
@@ -142,10 +136,8 @@ export function explained(text) {
 
 // ---- items and bytes
 
-/**
- * Shows the items near a place in the open job, and the bytes around it.
- * @param {number} place
- */
+// Shows the items and the bytes around a place of the open job.
+/** @param {number} place */
 export function showItemsAt(place) {
   if (opened) showItems(opened.job, place);
 }
@@ -180,7 +172,7 @@ async function showItems(job, place) {
  */
 async function bytesAround(job, place, end) {
   const start = Math.max(0, place - (place % BYTES_IN_ROW) - BYTES_BEFORE);
-  const slice = job.file.slice(start, place + BYTES_BEHIND);
+  const slice = job.file.slice(start, start + BYTES_BEFORE + BYTES_BEHIND);
   const bytes = new Uint8Array(await slice.arrayBuffer().catch(() => new ArrayBuffer(0)));
   /** @type {(Node | string)[]} */
   const told = [];
@@ -220,12 +212,9 @@ async function showNotes(job, printer, isStill) {
 /** @param {import("./module.js").Note} note */
 async function noteRow({ place, number, name }) {
   const text = await ask("explain", [String(number)]).catch(() => "");
-  const at = make("a", { href: "#items" }, say("atByte", { place }));
-  at.onclick = (event) => {
-    event.preventDefault();
-    showItemsAt(place);
-  };
-  return make("details", {}, make("summary", {}, `${number} ${name} `, at), ...explained(text).slice(1));
+  const at = makeButton(say("atByte", { place }), () => showItemsAt(place));
+  const title = make("summary", {}, `${number} ${name}`);
+  return make("details", {}, title, at, ...explained(text).slice(1));
 }
 
 // ---- downloads
@@ -244,8 +233,12 @@ function showDownloads(job, printer) {
   });
   const labels = selects.map((select) => make("label", {}, `${select.name} `, select, " "));
   const pin = () => {
-    const panel = selects.map(({ name, value }) => [name, Number(value) * (name === "vmi" ? VMI_PARTS : 1)]);
-    write("pin", [printer.profile, Object.fromEntries(panel)], "pinned");
+    /** @type {{ [field: string]: number }} */
+    const panel = {};
+    for (const { name, value } of selects) {
+      panel[name] = Math.round(Number(value) * (name === "vmi" ? VMI_PARTS : 1));
+    }
+    write("pin", [printer.profile, panel], "pinned");
   };
   /**
    * @param {string} call

@@ -19,7 +19,8 @@ const MARK =
   /^<(?:text|rect|g|line) class="(glyph|area|box|row|line)"([^>]*)><title>([^<]*)<\/title>(.*)$/gm;
 
 /**
- * The marks of a page, in the order in which they are drawn, and how large its sheet is.
+ * The marks of a page, in the order in which they are drawn, how large its sheet is, and where red
+ * shows that the job fails.
  * @param {string} svg
  */
 export function marksOf(svg) {
@@ -28,18 +29,13 @@ export function marksOf(svg) {
   for (const [, kind, attributes, title, rest] of svg.matchAll(MARK)) {
     if (marks.length === MOST_MARKS) break;
     const place = Number(/byte (\d+)/.exec(title)?.[1] ?? 0);
-    marks.push({ isRising: false, isLine: false, place, title, ...boxOf(kind, attributes, title, rest) });
+    const box = boxOf(kind, attributes, title, rest);
+    marks.push({ isRising: false, isLine: false, place, title, ...box });
   }
-  const [width, height] = sidesOf(svg);
-  return { marks, width, height };
-}
-
-/**
- * The sides of a picture in units.
- * @param {string} svg
- */
-function sidesOf(svg) {
-  return (/viewBox="0 0 ([\d.]+) ([\d.]+)"/.exec(svg) ?? ["", "1", "1"]).slice(1).map(Number);
+  const sides = /viewBox="0 0 ([\d.]+) ([\d.]+)"/.exec(svg) ?? ["", "1", "1"];
+  const fails = /class="failure" (?:x="|[^(]*\()(-?[\d.]+)(?:" y="| )(-?[\d.]+)/.exec(svg);
+  const failure = fails && { x: Number(fails[1]), y: Number(fails[2]) };
+  return { marks, width: Number(sides[1]), height: Number(sides[2]), failure };
 }
 
 /**

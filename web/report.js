@@ -8,37 +8,42 @@ import { shownJobs } from "./table.js";
 import { say } from "./texts.js";
 
 const MOST_PICTURES = 50;
-const POLICY = "default-src 'none'; img-src data:; style-src 'unsafe-inline'";
+const HEAD = `<!doctype html>
+<html lang="en">
+<meta charset="utf-8">
+<meta name="viewport" content="width=device-width">
+<meta http-equiv="Content-Security-Policy"
+  content="default-src 'none'; img-src data:; style-src 'unsafe-inline'">`;
 
 /** Readies both ways to have a report. */
 export function readyReport() {
-  byId("report-print").onclick = async () => {
-    await fill();
-    window.print();
-  };
-  byId("report-save").onclick = async () => {
-    await fill();
-    save("report.html", new Blob([documentOf()], { type: "text/html" }));
-  };
+  byId("report-print").onclick = () => fill().then(() => window.print());
+  byId("report-save").onclick = () =>
+    fill().then(() => {
+      const style = document.querySelector("style")?.textContent ?? "";
+      const body = `<body class="saved">${byId("report").outerHTML}</body>`;
+      const text = `${HEAD}\n<title>${say("report")}</title>\n<style>${style}</style>\n${body}\n`;
+      save("report.html", new Blob([text], { type: "text/html" }));
+    });
 }
 
 async function fill() {
   byId("told").textContent = say("reportMaking");
-  const fleet = printers();
-  const names = fleet.map(({ name }) => name).join(", ");
-  const report = byId("report");
-  report.replaceChildren(
-    make("h1", {}, say("reportTitle", { version: state.version })),
-    make("p", {}, say("reportMade", { date: new Date().toLocaleString(), printers: names })),
-  );
+  const names = printers().map(({ name }) => name);
+  const made = { date: new Date().toLocaleString(), printers: names.join(", ") };
+  const entries = [];
   let pictures = 0;
   for (const job of shownJobs()) {
     const isFail = resultOf(job, TOGETHER).status === "FAIL";
-    report.append(await entry(job, isFail && pictures < MOST_PICTURES));
-    if (isFail) pictures += 1;
+    entries.push(await entryOf(job, isFail && ++pictures <= MOST_PICTURES));
   }
-  if (pictures > MOST_PICTURES) report.append(make("p", {}, say("reportLimit", { n: MOST_PICTURES })));
-  report.append(make("p", {}, say("limits")));
+  byId("report").replaceChildren(
+    make("h1", {}, say("reportTitle", { version: state.version })),
+    make("p", {}, say("reportMade", made)),
+    ...entries,
+    make("p", {}, say("reportLimit", { n: MOST_PICTURES })),
+    make("p", {}, say("limits")),
+  );
   byId("told").textContent = say("reportReady");
 }
 
@@ -47,27 +52,27 @@ async function fill() {
  * @param {import("./state.js").Job} job
  * @param {boolean} hasPicture
  */
-async function entry(job, hasPicture) {
+async function entryOf(job, hasPicture) {
   const result = resultOf(job, TOGETHER);
   const told = make("p", {}, make("b", {}, say(result.status)), ` ${result.sentence}`);
-  const section = make("section", { className: result.status }, make("h2", {}, job.name), told);
+  const entry = make("section", { className: result.status }, make("h2", {}, job.name), told);
   const fleet = printers();
   const each = fleet.map(({ key, name }) => {
-    const one = resultOf(job, fleet.length > 1 ? key : TOGETHER);
-    return `${name}: ${"finding" in one && one.finding ? one.finding : say(one.status)}`;
+    const one = resultOf(job, key);
+    return `${name}: ${one.status === "FAIL" ? one.finding : say(one.status)}`;
   });
-  if (fleet.length > 1) section.append(make("p", {}, each.join("; ")));
-  if (!hasPicture || result.status !== "FAIL") return section;
-  section.append(...explained(await ask("explain", [String(result.number)]).catch(() => "")));
+  if (fleet.length > 1) entry.append(make("p", {}, each.join("; ")));
+  if (!hasPicture || result.status !== "FAIL") return entry;
+  entry.append(...explained(await ask("explain", [String(result.number)]).catch(() => "")));
   const printer = fleet[Math.max(1, result.printer) - 1];
   const page = Math.max(1, result.page);
   const picture = await ask("picture", [printer.profile, page, job.name], job).catch(() => null);
-  if (!picture || picture.isBig) return section;
+  if (!picture || picture.isBig) return entry;
   const alt = say("pageAlt", { page, name: job.name, printer: printer.name });
   const image = make("img", { src: await dataUrl(picture.image), alt });
   await image.decode().catch(() => {});
-  section.append(make("figure", {}, image, make("figcaption", {}, alt)));
-  return section;
+  entry.append(make("figure", {}, image, make("figcaption", {}, alt)));
+  return entry;
 }
 
 /**
@@ -81,21 +86,4 @@ function dataUrl(blob) {
     reader.onload = () => resolve(String(reader.result));
     reader.readAsDataURL(blob);
   });
-}
-
-/** The report as a document of its own. */
-function documentOf() {
-  const saved = document.implementation.createHTMLDocument(say("reportTitle", { version: state.version }));
-  const policy = make("meta", { httpEquiv: "Content-Security-Policy", content: POLICY });
-  const style = make("style", { textContent: document.querySelector("style")?.textContent ?? "" });
-  saved.head.prepend(make("meta", { name: "viewport", content: "width=device-width" }));
-  saved.head.prepend(policy);
-  const charset = make("meta");
-  charset.setAttribute("charset", "utf-8");
-  saved.head.prepend(charset);
-  saved.head.append(style);
-  saved.documentElement.lang = "en";
-  saved.body.className = "saved";
-  saved.body.append(byId("report").cloneNode(true));
-  return `<!doctype html>\n${saved.documentElement.outerHTML}`;
 }

@@ -12,7 +12,17 @@ import { say } from "./texts.js";
  * A printer: of a model, or of the text of a profile that was given.
  * @typedef {{ key: string, name: string, text: string, profile: Uint8Array }} Printer
  */
-/** @typedef {{ key: string, name: string, file: string, text: string, fault: string, hints: string, isChosen: boolean }} Own */
+/**
+ * A text of a profile that was given: its name and file, and what is wrong with it.
+ * @typedef {object} Own
+ * @property {string} key
+ * @property {string} name
+ * @property {string} file
+ * @property {string} text
+ * @property {string} fault
+ * @property {string} hints
+ * @property {boolean} isChosen
+ */
 /** @typedef {{ id: number, name: string, file: Blob, results: Map<string, Result> }} Job */
 
 /** The key of what came of a job for all printers together. */
@@ -39,10 +49,8 @@ export const state = {
 const listeners = [];
 let count = 0;
 
-/**
- * Hears of each change: of a job, or of all that is known.
- * @param {(job: Job | null) => void} listener
- */
+// Hears of a change of a job, or of all that is known.
+/** @param {(job: Job | null) => void} listener */
 export function onChange(listener) {
   listeners.push(listener);
 }
@@ -60,7 +68,9 @@ function changed(job) {
  * @param {string} text
  * @returns {Printer}
  */
-const printerOf = (key, name, text) => ({ key, name, text, profile: new TextEncoder().encode(text) });
+const printerOf = (key, name, text) => {
+  return { key, name, text, profile: new TextEncoder().encode(text) };
+};
 
 /** The printers that are chosen, those of models first. */
 export function printers() {
@@ -126,10 +136,8 @@ async function addProfile(file, text, isChosen = true) {
 
 // ---- jobs
 
-/**
- * Adds files: profiles to the printers, others to the jobs.
- * @param {Iterable<File>} files
- */
+// Adds files: profiles to the printers, others to the jobs.
+/** @param {Iterable<File>} files */
 export async function addFiles(files) {
   let isProfile = false;
   for (const file of files) {

@@ -6,6 +6,7 @@ import { TOGETHER, checkAll, printers, resultOf, state } from "./state.js";
 import { say } from "./texts.js";
 
 /** @typedef {import("./state.js").Job} Job */
+/** @typedef {import("./state.js").Result} Result */
 
 const STATUSES = /** @type {const} */ (["All", "PASS", "FAIL", "OTHER"]);
 
@@ -15,24 +16,19 @@ let rows = new Map();
 let openOne = () => {};
 let reading = { share: 1, name: "" };
 
-/**
- * Readies the table; a job is opened by this.
- * @param {(job: Job, key: string) => void} open
- */
+// Readies the table, by which a job is opened.
+/** @param {(job: Job, key: string) => void} open */
 export function readyTable(open) {
   openOne = open;
-  find("select", "status").onchange = filter;
+  const status = find("select", "status");
+  status.append(...STATUSES.map((name) => new Option("", name)));
+  status.onchange = filter;
   byId("words").oninput = filter;
-  byId("stop").onclick = () => {
-    if (counts().waiting > 0) stopChecks();
-    else checkAll();
-  };
+  byId("stop").onclick = () => (counts().waiting > 0 ? stopChecks() : checkAll());
 }
 
-/**
- * Shows a job anew, or all.
- * @param {Job | null} job
- */
+// Shows a job anew, or all.
+/** @param {Job | null} job */
 export function showTable(job) {
   byId("checks").hidden = state.jobs.length === 0;
   if (job && rows.has(job)) fillRow(job);
@@ -43,29 +39,38 @@ export function showTable(job) {
 
 function showAll() {
   const fleet = printers();
-  const names = [say("job"), say("verdict"), ...(fleet.length > 1 ? fleet.map((it) => it.name) : [])];
-  const heads = names.map((name, at) =>
+  const names = fleet.length > 1 ? fleet.map(({ name }) => name) : [];
+  const heads = [say("job"), say("verdict"), ...names].map((name, at) =>
     make("th", { scope: "col", className: at > 1 ? "turned" : "" }, make("span", {}, name)),
   );
-  byId("table").querySelector("thead")?.replaceChildren(make("tr", {}, ...heads));
-  rows = new Map(state.jobs.map((job) => [job, make("tr")]));
-  byId("table").querySelector("tbody")?.replaceChildren(...rows.values());
+  byId("table-head").replaceChildren(make("tr", {}, ...heads));
+  rows = new Map(state.jobs.map((job) => [job, rowOf(job)]));
+  byId("table-body").replaceChildren(...rows.values());
   for (const job of state.jobs) fillRow(job);
 }
 
+// A row that has the name of its job.
+/** @param {Job} job */
+function rowOf(job) {
+  const button = makeButton(job.name, () => openOne(job, TOGETHER));
+  return make("tr", {}, make("th", { scope: "row" }, button));
+}
+
+// Fills a row. Its first cell stays, which may have the focus.
 /** @param {Job} job */
 function fillRow(job) {
-  const together = resultOf(job, TOGETHER);
-  const name = make("th", { scope: "row" }, makeButton(job.name, () => openOne(job, TOGETHER)));
-  const verdict = make(
-    "td",
-    { className: together.status },
-    make("b", {}, shortOf(together)),
-    make("span", { className: "told" }, ` ${toldOf(job, together)}`),
-  );
+  const row = rows.get(job);
+  const result = resultOf(job, TOGETHER);
+  const verdict = make("td", { className: result.status });
+  verdict.append(make("b", {}, `${say(result.status)} `));
+  if (result.status === "FAIL") {
+    verdict.append(make("span", { className: "short" }, result.finding));
+  }
+  verdict.append(make("span", { className: "told" }, toldOf(job, result)));
   const fleet = printers();
-  const cells = fleet.length < 2 ? [] : fleet.map(({ key }) => cellOf(job, key));
-  rows.get(job)?.replaceChildren(name, verdict, ...cells);
+  const cells = fleet.length > 1 ? fleet.map(({ key }) => cellOf(job, key)) : [];
+  while (row && row.cells.length > 1) row.deleteCell(1);
+  row?.append(verdict, ...cells);
 }
 
 /**
@@ -75,26 +80,27 @@ function fillRow(job) {
  */
 function cellOf(job, key) {
   const result = resultOf(job, key);
-  const properties = { className: `${result.status} cell`, title: shortOf(result) };
-  const cell = make("td", properties, "number" in result && result.number > 0 ? `${result.number}` : "");
-  if (cell.textContent === "") cell.textContent = say(result.status);
+  const isFail = result.status === "FAIL";
+  const properties = { className: `${result.status} cell`, title: isFail ? result.finding : "" };
+  const cell = make("td", properties, isFail ? String(result.number) : say(result.status));
   cell.onclick = () => openOne(job, key);
   return cell;
 }
 
-/** @param {import("./state.js").Result} result */
-const shortOf = (result) =>
-  "finding" in result && result.finding ? `FAIL ${result.finding}` : say(result.status);
-
 /**
  * The sentence without the name of the job, which stands before it.
  * @param {Job} job
- * @param {import("./state.js").Result} result
+ * @param {Result} result
  */
-function toldOf(job, result) {
-  if (result.status === "WAITING" || result.status === "STOPPED") return "";
-  const { sentence } = result;
+function toldOf(job, { status, sentence }) {
+  if (status === "WAITING" || status === "STOPPED") return "";
   return sentence.startsWith(`${job.name}: `) ? sentence.slice(job.name.length + 2) : sentence;
+}
+
+// Gives the focus to the row of a job.
+/** @param {Job} job */
+export function focusRow(job) {
+  rows.get(job)?.querySelector("button")?.focus();
 }
 
 // ---- filters
@@ -107,7 +113,7 @@ function statusOf(job) {
 
 /** The jobs that the filters leave. */
 export function shownJobs() {
-  const status = find("select", "status").value || "All";
+  const status = find("select", "status").value;
   const words = find("input", "words").value.toLowerCase();
   return state.jobs.filter((job) => {
     const told = `${job.name} ${resultOf(job, TOGETHER).sentence}`.toLowerCase();
@@ -121,39 +127,33 @@ function filter() {
   byId("none-left").hidden = shown.size > 0 || state.jobs.length === 0;
 }
 
-function showStatuses() {
-  const select = find("select", "status");
-  const chosen = select.value || "All";
-  const options = STATUSES.map((status) => {
-    const n = state.jobs.filter((job) => status === "All" || statusOf(job) === status).length;
-    return new Option(say(`filter${status}`, { n }), status, false, status === chosen);
-  });
-  select.replaceChildren(...options);
-}
-
 // ---- progress
 
 function counts() {
-  const all = state.jobs.flatMap((job) => [...job.results.values()]);
-  const waiting = all.filter(({ status }) => status === "WAITING").length;
-  const stopped = all.filter(({ status }) => status === "STOPPED").length;
+  const all = state.jobs.flatMap((job) => [...job.results.values()].map(({ status }) => status));
+  const waiting = all.filter((status) => status === "WAITING").length;
+  const stopped = all.filter((status) => status === "STOPPED").length;
   return { all: all.length, waiting, stopped, done: all.length - waiting - stopped };
 }
 
-/** Shows how far the checks are. */
+/** Shows how far the checks are; a screen reader tells the end alone. */
 function showProgress() {
   const { all, waiting, stopped, done } = counts();
   const bar = find("progress", "progress");
   [bar.max, bar.value] = [Math.max(1, all), done];
-  const stop = byId("stop");
-  stop.hidden = waiting + stopped === 0;
-  stop.textContent = say(waiting > 0 ? "stop" : "goOn");
+  byId("stop").hidden = waiting + stopped === 0;
+  byId("stop").textContent = say(waiting > 0 ? "stop" : "goOn");
   const percent = Math.floor(100 * reading.share);
-  /** @type {import("./texts.js").TextName} */
-  let name = waiting === 0 ? "progressDone" : percent < 100 ? "progressRead" : "progress";
-  if (waiting === 0 && stopped > 0) name = "progressStopped";
-  byId("progress-told").textContent = say(name, { done, all, percent, name: reading.name });
-  showStatuses();
+  const values = { done, all, percent, name: reading.name };
+  const going = say(percent < 100 ? "progressRead" : "progress", values);
+  const ended = say(stopped > 0 ? "progressStopped" : "progressDone", { done, all });
+  byId("progress-told").textContent = waiting > 0 ? going : "";
+  byId("told").textContent = waiting > 0 || all === 0 ? "" : ended;
+  for (const option of find("select", "status").options) {
+    const status = /** @type {typeof STATUSES[number]} */ (option.value);
+    const n = state.jobs.filter((job) => status === "All" || statusOf(job) === status).length;
+    option.textContent = say(`filter${status}`, { n });
+  }
 }
 
 /**

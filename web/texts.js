@@ -2,7 +2,7 @@
 /** All texts of the page, in one table. What stands in braces is filled in. */
 const TEXTS = {
   title: "Will this job print?",
-  subtitle: "pclcheck {version} checks PCL 5 print jobs in this browser. Nothing leaves this computer.",
+  subtitle: "pclcheck {version} checks PCL 5 jobs in this browser. Nothing leaves this computer.",
   starting: "pclcheck is starting.",
   startFailed: "pclcheck cannot start in this browser: {why}",
 
@@ -14,7 +14,6 @@ const TEXTS = {
   pasteLabel: "Text of a job or a profile; \\x1b stands for the byte ESC",
   pasteAdd: "Add this text",
   pastedName: "pasted {n}",
-  jobAdded: "{n} jobs are in the table",
 
   printers: "Printers",
   printersChosen: "Printers: {names}",
@@ -34,7 +33,6 @@ const TEXTS = {
 
   verdict: "Verdict",
   job: "Job",
-  noJobs: "No job yet.",
   noneLeft: "No job is left by these filters.",
   filterStatus: "Show",
   filterAll: "all ({n})",
@@ -58,8 +56,8 @@ const TEXTS = {
   stoppedTold: "This check was stopped.",
   errorTold: "No verdict: {why}.",
   tooLong:
-    "No verdict: this job has {size} MB, and this page takes at most {most} MB. The program pclcheck takes it.",
-  timedOut: "the check was given up after {seconds} seconds; the program pclcheck has no such limit",
+    "No verdict: this job has {size} MB, and this page takes {most} MB. The program takes it.",
+  timedOut: "it was given up after {seconds} seconds; the program has no such limit",
   workerDied: "the browser ended the check, as it does where memory is short",
   unreadable: "the file cannot be read ({why})",
 
@@ -68,15 +66,13 @@ const TEXTS = {
   nextJob: "Next job",
   onPrinter: "On",
   allTogether: "all printers together",
-  sentence: "What is told",
-  explanation: "What it means",
   items: "In the job at byte {place}",
   itemsHelp: "Click a mark of the page, and its item is shown here.",
   bytes: "Bytes around it",
   notes: "What a PASS leaves to {name}",
   notesNone: "Nothing.",
   notesFailed: "No notes: {why}.",
-  atByte: "at byte {place}",
+  atByte: "Show byte {place}",
   downloads: "Downloads",
   savePlain: "Save it in one spelling (plain)",
   savePin: "Save it pinned to the panel of {name}",
@@ -90,8 +86,7 @@ const TEXTS = {
   zoomIn: "Larger",
   zoomOut: "Smaller",
   zoomFit: "Fit",
-  pageHelp:
-    "Arrow keys move the ruler by 1 mm, with Shift by 10 mm; N and B go from mark to mark; Enter picks.",
+  pageHelp: "Arrow keys move the ruler 1 mm, with Shift 10; N and B go by marks, Enter picks.",
   pageAlt: "Page {page} of {name} on {printer}",
   pageDrawing: "The page is being drawn.",
   pageNone: "There is no page to show: {why}.",
@@ -99,7 +94,7 @@ const TEXTS = {
   pageSave: "Save the picture",
   pageFails: "The job fails on this page: red shows where.",
   pageFirstPanel: "Drawn as the panel of {name} stands at first: {panel}.",
-  pageUnset: "From this panel it prints. It is refused because {field} may also be {values}.",
+  pageUnset: "It is refused as {field} may also be {values}, and the job does not set it.",
   pageDiffers: "On this printer it prints so; on another one it does not print alike.",
   pointer: "x {x} mm ({xInch} in), y {y} mm ({yInch} in)",
   distance: "; from the last click {x} mm ({xInch} in) across, {y} mm ({yInch} in) down",
@@ -114,16 +109,12 @@ const TEXTS = {
   reportReady: "The report is ready.",
   reportLimit: "Pictures are of the first {n} jobs that fail.",
 
-  limits: "A verdict is about the printers of these profiles. What it promises, and what not, the documents of pclcheck tell.",
-  noScript: "This page needs JavaScript, which is in this file.",
+  limits: "A verdict is about the printers of these profiles: the documents of pclcheck tell more.",
 };
 
 /** The names of values of a panel, for people. */
 const VALUE_NAMES = /** @type {{ [field: string]: { [value: string]: string } }} */ ({
-  size: {
-    1: "executive", 2: "letter", 3: "legal", 24: "A6", 25: "A5", 26: "A4", 80: "monarch",
-    81: "com-10", 90: "DL", 91: "C5", 100: "B5",
-  },
+  size: { 1: "executive", 2: "letter", 3: "legal", 6: "ledger", 25: "A5", 26: "A4", 27: "A3" },
   orientation: { 0: "portrait", 1: "landscape", 2: "reverse portrait", 3: "reverse landscape" },
   sides: { 0: "one side", 1: "both, long edge", 2: "both, short edge" },
 });

@@ -1,7 +1,7 @@
 // @ts-check
 /** A page of a job: zoom, a ruler at the pointer, and the mark under it. */
 import { ask } from "./checker.js";
-import { byId, find, make, makeButton, save, whyOf } from "./dom.js";
+import { byId, find, make, save, whyOf } from "./dom.js";
 import { say, valueName } from "./texts.js";
 
 /** @typedef {import("./marks.js").Mark} Mark */
@@ -25,8 +25,8 @@ const ZOOM_STEP = 1.25;
 
 /** @type {Shown | null} */
 let shown = null;
-/** @type {{ marks: Mark[], width: number, height: number }} */
-let drawn = { marks: [], width: 1, height: 1 };
+/** @type {{ marks: Mark[], width: number, height: number, failure: Point | null }} */
+let drawn = { marks: [], width: 1, height: 1, failure: null };
 /** @type {Point} */
 let pointer = { x: 0, y: 0 };
 /** @type {Point | null} */
@@ -38,10 +38,8 @@ let pixels = 0;
 /** @type {(place: number) => void} */
 let pickItem = () => {};
 
-/**
- * Readies the page; the item of a mark that is picked is shown by this.
- * @param {(place: number) => void} pick
- */
+// Readies the page; picked items are shown by this.
+/** @param {(place: number) => void} pick */
 export function readyViewer(pick) {
   pickItem = pick;
   byId("page-back").onclick = () => turnTo((shown?.page ?? 1) - 1);
@@ -101,10 +99,11 @@ function turnTo(page) {
 
 function clear() {
   byId("sheet").hidden = true;
+  byId("page-save").hidden = true;
   byId("page-told").textContent = "";
   byId("pointer").textContent = "";
   URL.revokeObjectURL(find("img", "picture").src);
-  drawn = { marks: [], width: 1, height: 1 };
+  drawn = { marks: [], width: 1, height: 1, failure: null };
   markAt = -1;
 }
 
@@ -123,14 +122,15 @@ async function draw() {
   }
 }
 
-/** @param {{ image: Blob, isBig: boolean, marks: Mark[], width: number, height: number }} picture */
+/** @param {typeof drawn & { image: Blob, isBig: boolean }} picture */
 async function put(picture) {
   if (!shown) return;
   const { job, printer, page } = shown;
-  const keep = makeButton(say("pageSave"), () => save(`${job.name}.${page}.svg`, picture.image));
+  byId("page-save").onclick = () => save(`${job.name}.${page}.svg`, picture.image);
+  byId("page-save").hidden = false;
   if (picture.isBig) {
     const size = Math.ceil(picture.image.size / (1 << 20));
-    byId("page-told").replaceChildren(say("pageBig", { size }), " ", keep);
+    byId("page-told").textContent = say("pageBig", { size });
     return;
   }
   const image = find("img", "picture");
@@ -139,14 +139,15 @@ async function put(picture) {
   await image.decode().catch(() => {});
   drawn = picture;
   byId("sheet").hidden = false;
-  byId("page-told").replaceChildren(...toldOfPage(shown).map((it) => make("span", {}, `${it} `)), keep);
+  byId("page-told").textContent = toldOfPage(shown).join(" ");
   layOut();
+  point(drawn.failure ?? { x: 0, y: 0 });
+  // What fails comes into the middle.
+  byId("view").scrollTo(0, (pointer.y * inch()) / UNITS_PER_INCH - byId("view").clientHeight / 2);
 }
 
-/**
- * What is told above a page: from which panel it is, and what of its failure it shows.
- * @param {Shown} shown
- */
+// What is told above a page: its panel, and what it shows of the failure.
+/** @param {Shown} shown */
 function toldOfPage({ printer, result, page }) {
   const panel = panelOf(printer.text);
   const first = [...panel].map(([field, values]) => `${field} ${valueName(field, values[0])}`);
@@ -159,14 +160,14 @@ function toldOfPage({ printer, result, page }) {
   return [...told, say("pageUnset", { field, values })];
 }
 
-/**
- * The fields of a panel with the values that a profile allows.
- * @param {string} text
- * @returns {Map<string, string[]>}
- */
+// The fields of a panel with the values that a profile allows.
+/** @param {string} text */
 export function panelOf(text) {
   const field = /^(size|orientation|vmi|font|copies|sides|tray|lineterm) +(.*\S) *$/gm;
-  return new Map([...text.matchAll(field)].map(([, name, values]) => [name, values.split(/ +/)]));
+  /** @type {Map<string, string[]>} */
+  const panel = new Map();
+  for (const [, name, values] of text.matchAll(field)) panel.set(name, values.split(/ +/));
+  return panel;
 }
 
 function showBar() {
@@ -196,16 +197,17 @@ function layOut() {
   const scale = inch() / UNITS_PER_INCH;
   style.width = `${drawn.width * scale}px`;
   style.height = `${drawn.height * scale}px`;
-  style.setProperty("--inch", `${inch()}px`);
+  // Millimetres that would lie too close are left out of the rulers.
+  const step = inch() < 64 ? inch() / 2.54 : inch() / MM_PER_INCH;
+  const steps = { inch: inch(), eighth: inch() / 8, centimetre: inch() / 2.54, step };
+  for (const [name, size] of Object.entries(steps)) style.setProperty(`--${name}`, `${size}px`);
   showPointer();
 }
 
 // ---- pointer
 
-/**
- * Moves the pointer by a key; whether the key is one of these.
- * @param {KeyboardEvent} event
- */
+// Does what a key is for; whether it is for something.
+/** @param {KeyboardEvent} event */
 function moveBy({ key, shiftKey }) {
   const step = ((shiftKey ? 10 : 1) * UNITS_PER_INCH) / MM_PER_INCH;
   const { x, y } = pointer;
@@ -252,10 +254,8 @@ function pickHere() {
   showPointer();
 }
 
-/**
- * The number of the smallest mark at a point, of those the one that is drawn last; -1 for none.
- * @param {Point} at
- */
+// The smallest mark at a point, and of those the last that is drawn.
+/** @param {Point} at */
 function nearest(at) {
   let [found, least] = [-1, Infinity];
   drawn.marks.forEach((mark, number) => {
@@ -293,7 +293,9 @@ function showPointer() {
   box.hidden = !mark;
   if (mark) {
     const sides = { left: mark.x, top: mark.y, width: mark.width, height: mark.height };
-    for (const [side, units] of Object.entries(sides)) box.style.setProperty(side, `${units * scale}px`);
+    for (const [side, units] of Object.entries(sides)) {
+      box.style.setProperty(side, `${units * scale}px`);
+    }
   }
   const far = picked && { x: pointer.x - picked.x, y: pointer.y - picked.y };
   const told = say("pointer", measures(pointer)) + (far ? say("distance", measures(far)) : "");

@@ -35,15 +35,13 @@ const CALLS = {
   picture: (job, profile, page, name) => {
     const svg = checker.picture(profile, job, page, name);
     const isBig = svg.length > MOST_PICTURE;
-    const marks = isBig ? { marks: [], width: 1, height: 1 } : marksOf(svg);
-    return { image: new Blob([svg], { type: "image/svg+xml" }), isBig, ...marks };
+    const image = new Blob([svg], { type: "image/svg+xml" });
+    return { image, isBig, ...marksOf(isBig ? "" : svg) };
   },
 };
 
-/**
- * The bytes of a job, which are read once for calls that follow each other.
- * @param {{ id: number, file: Blob } | null} job
- */
+// The bytes of a job, read once for calls that follow each other.
+/** @param {Question["job"]} job */
 async function readJob(job) {
   if (!job) return new Uint8Array();
   if (held.id === job.id) return held.bytes;
