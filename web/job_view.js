@@ -70,11 +70,11 @@ export async function openJob(job, key) {
   if (result.status === "PASS") showNotes(job, printer, isStill);
 }
 
-// Shows a job that is open anew, as its checks have come further.
-/** @param {Job | null} job */
-export function refreshJob(job) {
+// Shows the open job anew, where its checks have come further.
+/** @param {Set<Job> | null} jobs */
+export function refreshJob(jobs) {
   const wasWaiting = byId("sentence").className === "WAITING";
-  if (opened && opened.job === job && wasWaiting) openJob(opened.job, opened.key);
+  if (opened && jobs?.has(opened.job) && wasWaiting) openJob(opened.job, opened.key);
 }
 
 /**

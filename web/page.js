@@ -27,10 +27,10 @@ async function ready() {
   readyViewer(showItemsAt);
   readyReport();
   byId("clear").onclick = clearJobs;
-  onChange((job) => {
-    if (!job) showPrinters();
-    showTable(job);
-    refreshJob(job);
+  onChange((jobs) => {
+    if (!jobs) showPrinters();
+    showTable(jobs);
+    refreshJob(jobs);
   });
   onReading(showReading);
   showPrinters();

@@ -45,44 +45,53 @@ export const state = {
   keeps: true,
 };
 
-/** @type {((job: Job | null) => void)[]} */
-const listeners = [];
+/** How long changes are gathered before they are shown, in milliseconds. */
+const PAUSE = 20;
+/** @type {Set<Job | null>} */
+const changes = new Set();
+/** @type {(jobs: Set<Job> | null) => void} */
+let tellChanges = () => {};
 let count = 0;
 
-// Hears of a change of a job, or of all that is known.
-/** @param {(job: Job | null) => void} listener */
-export function onChange(listener) {
-  listeners.push(listener);
+// Hears which jobs have changed, or that all has.
+/** @param {(jobs: Set<Job> | null) => void} tell */
+export function onChange(tell) {
+  tellChanges = tell;
 }
 
 /** @param {Job | null} job */
 function changed(job) {
-  for (const listener of listeners) listener(job);
+  if (changes.size === 0) setTimeout(showChanges, PAUSE);
+  changes.add(job);
+}
+
+function showChanges() {
+  const jobs = changes.has(null) ? null : /** @type {Set<Job>} */ (new Set(changes));
+  changes.clear();
+  tellChanges(jobs);
 }
 
 // ---- printers
 
-/**
- * @param {string} key
- * @param {string} name
- * @param {string} text
- * @returns {Printer}
- */
-const printerOf = (key, name, text) => {
-  return { key, name, text, profile: new TextEncoder().encode(text) };
-};
+/** @type {Printer[]} */
+let chosen = [];
 
 /** The printers that are chosen, those of models first. */
 export function printers() {
+  return chosen;
+}
+
+function gatherPrinters() {
   const ofModels = state.models
     .filter(({ name }) => state.chosenModels.has(name))
-    .map(({ name, text }) =>
-      printerOf(`model ${name}`, name, text.replace(/^size .*$/m, `size ${state.paper}`)),
-    );
-  const ofFiles = state.own
-    .filter(({ isChosen }) => isChosen)
-    .map(({ key, name, text }) => printerOf(key, name, text));
-  return [...ofModels, ...ofFiles];
+    .map(({ name, text }) => {
+      const sized = text.replace(/^size .*$/m, `size ${state.paper}`);
+      return { key: `model ${name}`, name, text: sized };
+    });
+  const ofFiles = state.own.filter(({ isChosen }) => isChosen);
+  chosen = [...ofModels, ...ofFiles].map(({ key, name, text }) => {
+    return { key, name, text, profile: new TextEncoder().encode(text) };
+  });
 }
 
 /** Takes up what was kept when this page was last open. */
@@ -97,6 +106,7 @@ export async function recall() {
   } catch {
     state.keeps = false;
   }
+  gatherPrinters();
 }
 
 function keep() {
@@ -113,6 +123,7 @@ function keep() {
 /** Checks all jobs anew, as the printers have changed. */
 export function changePrinters() {
   keep();
+  gatherPrinters();
   stopChecks();
   for (const job of state.jobs) job.results = new Map();
   changed(null);
@@ -127,7 +138,9 @@ export function changePrinters() {
  */
 async function addProfile(file, text, isChosen = true) {
   const profile = new TextEncoder().encode(text);
-  const told = await ask("lint", [profile, file]);
+  const told = await ask("lint", [profile, file]).catch((error) => {
+    return { hasFaults: true, text: whyOf(error), name: "" };
+  });
   const [fault, hints] = told.hasFaults ? [told.text, ""] : ["", told.text];
   const one = { key: `file ${file}`, name: told.name || file, file, text, fault, hints };
   const own = { ...one, isChosen: isChosen && !fault };
@@ -173,21 +186,18 @@ export function clearJobs() {
 
 /** Starts each check that has not come to an end. */
 export function checkAll() {
-  const fleet = printers();
-  if (fleet.length === 0) return;
+  if (chosen.length === 0) return;
   for (const job of state.jobs) {
-    const { status } = job.results.get(TOGETHER) ?? { status: "STOPPED" };
-    const isStopped = [...job.results.values()].some((it) => it.status === "STOPPED");
-    if (status === "STOPPED" || isStopped) check(job, fleet);
+    const results = [...job.results.values()];
+    const isStopped = results.some(({ status }) => status === "STOPPED");
+    if (isStopped || results.length === 0) check(job);
   }
 }
 
-/**
- * Checks a job for all printers together, and where it fails for each.
- * @param {Job} job
- * @param {Printer[]} fleet
- */
-async function check(job, fleet) {
+// Checks a job for all printers together, and where it fails for each.
+/** @param {Job} job */
+async function check(job) {
+  const fleet = printers();
   const results = new Map();
   job.results = results;
   const keys = fleet.length === 1 ? [TOGETHER] : [TOGETHER, ...fleet.map(({ key }) => key)];

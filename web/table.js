@@ -27,11 +27,11 @@ export function readyTable(open) {
   byId("stop").onclick = () => (counts().waiting > 0 ? stopChecks() : checkAll());
 }
 
-// Shows a job anew, or all.
-/** @param {Job | null} job */
-export function showTable(job) {
+// Shows jobs anew, or all.
+/** @param {Set<Job> | null} jobs */
+export function showTable(jobs) {
   byId("checks").hidden = state.jobs.length === 0;
-  if (job && rows.has(job)) fillRow(job);
+  if (jobs) for (const job of jobs) fillRow(job);
   else showAll();
   filter();
   showProgress();
@@ -149,6 +149,7 @@ function showProgress() {
   const ended = say(stopped > 0 ? "progressStopped" : "progressDone", { done, all });
   byId("progress-told").textContent = waiting > 0 ? going : "";
   byId("told").textContent = waiting > 0 || all === 0 ? "" : ended;
+  if (printers().length === 0) byId("told").textContent = say("printersNone");
   for (const option of find("select", "status").options) {
     const status = /** @type {typeof STATUSES[number]} */ (option.value);
     const n = state.jobs.filter((job) => status === "All" || statusOf(job) === status).length;
