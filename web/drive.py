@@ -1,5 +1,5 @@
 #!/usr/bin/env python3
-"""Drives web/pclcheck.html in Chromium and Firefox without a window, and takes pictures of it.
+"""Drives the packed page in Chromium and Firefox without a window, and takes pictures of it.
 
     python3 web/drive.py PAGE FOLDER [chromium|firefox ..]
 
@@ -34,7 +34,8 @@ INVOICE = (EXAMPLES / "invoice.pcl").read_bytes()
 MADE = {"wide_total.pcl": INVOICE.replace(b"c750a120b", b"c900a120b"),
         "broken.pcl": INVOICE.replace(b"TOTAL", b"TO\x1b\x1fTAL"),
         "page_length.pcl": INVOICE.replace(b"TOTAL", b"\x1b&l66PTOTAL")}
-PATIENCE = 90
+# How long a page may take, in seconds.
+PATIENCE = float(os.environ.get("PATIENCE", "90"))
 
 
 class Browser(Protocol):
