@@ -12,6 +12,7 @@ gate. Needs Debian's chromium or firefox-esr.
 import base64
 import json
 import os
+import random
 import shutil
 import socket
 import subprocess
@@ -33,7 +34,16 @@ INVOICE = (EXAMPLES / "invoice.pcl").read_bytes()
 # Jobs that fail: at an edge of the page, by bytes that are none, and by a command not checked.
 MADE = {"wide_total.pcl": INVOICE.replace(b"c750a120b", b"c900a120b"),
         "broken.pcl": INVOICE.replace(b"TOTAL", b"TO\x1b\x1fTAL"),
-        "page_length.pcl": INVOICE.replace(b"TOTAL", b"\x1b&l66PTOTAL")}
+        "page_length.pcl": INVOICE.replace(b"TOTAL", b"\x1b&l66PTOTAL"),
+        "open_ends.pcl": INVOICE.removeprefix(b"\x1bE").removesuffix(b"\x1bE")}
+# A job whose macros carry out 27 thousand million items, and bytes that are no job.
+INNER = b"\x1b&f1y0X" + b"\x1b*p300X" * 3000 + b"\x1b&f1X"
+OUTER = b"\x1b&f2y0X" + b"\x1b&f1y3X" * 3000 + b"\x1b&f1X"
+HOSTILE = {"endless.pcl": b"\x1bE" + INNER + OUTER + b"\x1b&f2y3X" * 3000,
+           "noise.bin": random.Random(7).randbytes(100_000),
+           "<img src=x onerror=alert(1)>.pcl": b"\x1bE<script>alert(1)</script>\x1bE",
+           "empty.pcl": b""}
+GIGABYTE = 1 << 30
 # How long a page may take, in seconds.
 PATIENCE = float(os.environ.get("PATIENCE", "90"))
 
@@ -248,6 +258,40 @@ def see_start(browser: Browser) -> None:
     browser.run("document.getElementById('printers').open = true")
 
 
+def see_hostile(browser: Browser) -> None:
+    """Jobs that are too large, too long, or none: each has to end in a sentence."""
+    with tempfile.TemporaryDirectory() as folder:
+        for name, job in HOSTILE.items():
+            Path(folder, name).write_bytes(job)
+        with Path(folder, "large.pcl").open("wb") as large:
+            large.truncate(GIGABYTE)
+        ready(browser, [PRINTERS[0], *sorted(Path(folder).iterdir())])
+    for name, told in table(browser).items():
+        print(f"  {name}: {told}")
+
+
+def see_ways(browser: Browser) -> None:
+    """A job that is dropped, one that is pasted, and one whose text is typed."""
+    wait(browser, "document.body && document.body.dataset.ready")
+    browser.run("""
+        const given = (name) => {
+          const data = new DataTransfer();
+          data.items.add(new File(['\\x1bEA\\x1bE'], name));
+          return data;
+        };
+        const how = {bubbles: true, cancelable: true};
+        const drop = new DragEvent('drop', {...how, dataTransfer: given('dropped')});
+        document.body.dispatchEvent(drop);
+        const paste = new ClipboardEvent('paste', {...how, clipboardData: given('pasted')});
+        document.body.dispatchEvent(paste);
+        document.getElementById('pasted').value = '\\\\x1bEtyped\\\\x1bE';
+        document.getElementById('add-pasted').click();
+        document.getElementById('try').click();""")
+    wait(browser, f"{IS_DONE} && document.querySelectorAll('tbody tr').length === 5")
+    for name, told in table(browser).items():
+        print(f"  {name}: {told}")
+
+
 def see(name: str, then: str = "") -> Callable[[Browser], None]:
     """The scene of one job, opened, and of what a script does behind that."""
 
@@ -280,7 +324,9 @@ SCENES: dict[str, Callable[[Browser], None]] = {
     "unset": see("unset_size.pcl"),
     "bytes": see("broken.pcl", TO_TOLD),
     "unchecked": see("page_length.pcl"),
-    "notes": see("listing.pcl", "document.querySelectorAll('#notes details')"
+    "ways": see_ways,
+    "hostile": see_hostile,
+    "notes": see("open_ends.pcl", "document.querySelectorAll('#notes details')"
                  f".forEach(it => {{ it.open = true; }}); {TO_TOLD}"),
 }
 

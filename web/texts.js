@@ -51,7 +51,7 @@ const TEXTS = {
   STOPPED: "stopped",
   PASS: "PASS",
   FAIL: "FAIL",
-  ERROR: "no verdict",
+  ERROR: "ERROR",
   waitingTold: "This check is not done yet.",
   stoppedTold: "This check was stopped.",
   errorTold: "No verdict: {why}.",
