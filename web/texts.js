@@ -42,6 +42,7 @@ const TEXTS = {
   filterWords: "With these words",
   progress: "{done} of {all} checks",
   progressRead: "{done} of {all} checks, reading {name}: {percent} %",
+  progressLabel: "Checks that are done",
   progressDone: "All {all} checks are done.",
   progressStopped: "Stopped: {done} of {all} checks are done.",
   stop: "Stop",

@@ -49,10 +49,10 @@ export function readyViewer(pick) {
   byId("zoom-out").onclick = () => zoom(inch() / ZOOM_STEP);
   byId("zoom-fit").onclick = () => zoom(0);
   const sheet = byId("sheet");
-  sheet.onpointermove = (event) => {
+  sheet.onpointermove = sheet.onpointerdown = ({ clientX, clientY }) => {
     const { left, top } = sheet.getBoundingClientRect();
     const scale = UNITS_PER_INCH / inch();
-    point({ x: (event.clientX - left) * scale, y: (event.clientY - top) * scale });
+    point({ x: (clientX - left) * scale, y: (clientY - top) * scale });
   };
   sheet.onclick = pickHere;
   byId("view").onkeydown = (event) => {
