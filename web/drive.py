@@ -270,6 +270,28 @@ def see_hostile(browser: Browser) -> None:
         print(f"  {name}: {told}")
 
 
+def see_fast(browser: Browser) -> None:
+    """Tells how long a small job takes, and one of 14 MB on all models with its first page."""
+    wait(browser, "document.body && document.body.dataset.ready")
+    browser.run("for (const it of document.querySelectorAll('#models input:not(:checked)'))"
+                " it.click(); window.begun = 0; document.getElementById('files').addEventListener("
+                "'change', () => { window.begun = performance.now(); }); new MutationObserver("
+                "() => { if (!window.first && document.querySelector('tbody .PASS, tbody .FAIL'))"
+                " window.first = performance.now(); }).observe(document.querySelector('tbody'),"
+                " {childList: true, subtree: true});")
+    with tempfile.TemporaryDirectory() as folder:
+        large = Path(folder, "large.pcl")
+        large.write_bytes(INVOICE * (14_000_000 // len(INVOICE)))
+        browser.give("#files", [EXAMPLES / "letter.pcl"])
+        wait(browser, IS_DONE)
+        print("  first verdict:", browser.run("return window.first - window.begun"), "ms")
+        start = time.monotonic()
+        browser.give("#files", [large])
+        wait(browser, f"document.querySelectorAll('tbody tr').length === 2 && {IS_DONE}")
+        opened(browser, "large.pcl")
+        print(f"  14 MB on 21 printers, and a page: {time.monotonic() - start:.1f} s")
+
+
 def see_ways(browser: Browser) -> None:
     """A job that is dropped, one that is pasted, and one whose text is typed."""
     wait(browser, "document.body && document.body.dataset.ready")
@@ -326,6 +348,7 @@ SCENES: dict[str, Callable[[Browser], None]] = {
     "unchecked": see("page_length.pcl"),
     "ways": see_ways,
     "hostile": see_hostile,
+    "fast": see_fast,
     "notes": see("open_ends.pcl", "document.querySelectorAll('#notes details')"
                  f".forEach(it => {{ it.open = true; }}); {TO_TOLD}"),
 }
