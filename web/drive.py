@@ -270,6 +270,17 @@ def see_hostile(browser: Browser) -> None:
         print(f"  {name}: {told}")
 
 
+def see_report(browser: Browser) -> None:
+    """The report, as paper shows it."""
+    ready(browser, [PRINTERS[0], PRINTERS[1], *JOBS[-3:]])
+    browser.run("window.print = () => { window.printed = true; };"
+                "document.getElementById('report-print').click()")
+    wait(browser, "window.printed")
+    browser.run("document.body.className = 'saved';"
+                "for (const it of document.querySelectorAll('body > :not(#report)'))"
+                " it.hidden = true; scrollTo(0, 0)")
+
+
 def see_fast(browser: Browser) -> None:
     """Tells how long a small job takes, and one of 14 MB on all models with its first page."""
     wait(browser, "document.body && document.body.dataset.ready")
@@ -347,6 +358,7 @@ SCENES: dict[str, Callable[[Browser], None]] = {
     "bytes": see("broken.pcl", TO_TOLD),
     "unchecked": see("page_length.pcl"),
     "ways": see_ways,
+    "report": see_report,
     "hostile": see_hostile,
     "fast": see_fast,
     "notes": see("open_ends.pcl", "document.querySelectorAll('#notes details')"

@@ -224,27 +224,11 @@ async function noteRow({ place, number, name }) {
  * @param {Printer} printer
  */
 function showDownloads(job, printer) {
-  const told = make("p", {}, "");
+  const told = make("p");
   told.setAttribute("role", "status");
-  const choices = [...panelOf(printer.text)].filter(([, values]) => values.length > 1);
-  const selects = choices.map(([field, values]) => {
-    const options = values.map((value) => new Option(valueName(field, value), value));
-    return make("select", { name: field }, ...options);
-  });
+  const selects = panelSelects(printer);
   const labels = selects.map((select) => make("label", {}, `${select.name} `, select, " "));
-  const pin = () => {
-    /** @type {{ [field: string]: number }} */
-    const panel = {};
-    for (const { name, value } of selects) {
-      panel[name] = Math.round(Number(value) * (name === "vmi" ? VMI_PARTS : 1));
-    }
-    write("pin", [printer.profile, panel], "pinned");
-  };
-  /**
-   * @param {string} call
-   * @param {any[]} given
-   * @param {string} ending
-   */
+  /** @type {(call: string, given: any[], ending: string) => Promise<void>} */
   const write = async (call, given, ending) => {
     try {
       const { status, bytes, place, number } = await ask(call, given, job);
@@ -254,11 +238,32 @@ function showDownloads(job, printer) {
       told.textContent = say("saveFailed", { why: whyOf(error) });
     }
   };
+  const pin = () => write("pin", [printer.profile, panelChosen(selects)], "pinned");
   byId("downloads").replaceChildren(
     make("h3", {}, say("downloads")),
     make("p", {}, makeButton(say("savePlain"), () => write("plain", [], "plain"))),
     make("p", {}, ...labels, makeButton(say("savePin", { name: printer.name }), pin)),
     told,
+  );
+}
+
+// What may be chosen at a panel.
+/** @param {Printer} printer */
+function panelSelects(printer) {
+  const choices = [...panelOf(printer.text)].filter(([, values]) => values.length > 1);
+  return choices.map(([field, values]) => {
+    const options = values.map((value) => new Option(valueName(field, value), value));
+    return make("select", { name: field }, ...options);
+  });
+}
+
+// What was chosen, as the module numbers it.
+/** @param {HTMLSelectElement[]} selects */
+function panelChosen(selects) {
+  return Object.fromEntries(
+    selects.map(({ name, value }) => {
+      return [name, Math.round(Number(value) * (name === "vmi" ? VMI_PARTS : 1))];
+    }),
   );
 }
 
