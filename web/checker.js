@@ -105,6 +105,7 @@ class Lane {
   leave() {
     clearTimeout(this.timer);
     this.task = null;
+    tellReading(1, "");
   }
 
   /**

@@ -163,6 +163,7 @@ function showProgress() {
  * @param {string} name
  */
 export function showReading(share, name) {
+  if (share === reading.share) return;
   reading = { share, name };
   showProgress();
 }
