@@ -162,7 +162,7 @@ class Firefox:
         self.call("WebDriver:NewSession", capabilities={})
 
     def connect(self) -> socket.socket:
-        for _ in range(300):
+        for _ in range(int(PATIENCE * 5)):
             try:
                 return socket.create_connection(("127.0.0.1", 2929))
             except OSError:
