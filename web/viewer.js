@@ -227,9 +227,12 @@ function moveBy({ key, shiftKey }) {
     0: () => zoom(0),
   };
   const move = moves[key.length === 1 ? key.toLowerCase() : key];
-  move?.();
-  if (move) byId("across").scrollIntoView({ block: "nearest" });
-  return move !== undefined;
+  if (!move) return false;
+  move();
+  for (const ruler of [byId("across"), byId("down")]) {
+    ruler.scrollIntoView({ block: "nearest", inline: "nearest" });
+  }
+  return true;
 }
 
 /** @param {Point} to */
