@@ -1,10 +1,10 @@
 #!/usr/bin/env python3
 """Drives the packed page in Chromium and Firefox without a window, and takes pictures of it.
 
-    python3 web/drive.py PAGE FOLDER [chromium|firefox ..]
+    python3 web/drive.py PAGE FOLDER [chromium|firefox ..] [SCENE ..]
 
-Each scene opens the page anew with files of `examples`, on a desk and a phone, light and dark. What
-the table says is compared with the program where crates/pclcheck/out/pclcheck or the variable
+Each scene opens the page anew with files of `examples`, on a desk and a phone, light and dark; the
+pictures go into FOLDER. What the table says is compared with the program where crates/pclcheck/out/pclcheck or the variable
 PCLCHECK is one. Tells what a page asked the network for, which has to be nothing. Not part of the
 gate. Needs Debian's chromium or firefox-esr.
 """
@@ -27,6 +27,8 @@ ROOT = Path(__file__).resolve().parent.parent
 EXAMPLES = ROOT / "examples"
 PROGRAM = os.environ.get("PCLCHECK", str(ROOT / "crates/pclcheck/out/pclcheck"))
 DESK, PHONE = (1280, 900), (390, 844)
+LOOKS = [(DESK, "desk", False), (DESK, "desk", True), (PHONE, "phone", False),
+         (PHONE, "phone", True)]
 PRINTERS = [EXAMPLES / f"{it}.profile" for it in ("front_desk", "back_office", "export_desk",
                                                   "dispatch")]
 JOBS = sorted(EXAMPLES.glob("*.pcl"))
@@ -393,22 +395,23 @@ def is_outside(url: str) -> bool:
     return not url.startswith(("file:", "blob:", "data:", "about:"))
 
 
-def drive(kind: str, page: Path, folder: Path, chosen: list[str]) -> None:
-    """Plays all scenes in a browser."""
+def play(browser: Browser, kind: str, name: str, page: Path, folder: Path) -> None:
+    """Plays a scene in each look, and takes its pictures."""
+    for size, place, is_dark in LOOKS:
+        browser.show(page.resolve().as_uri(), size, is_dark)
+        SCENES[name](browser)
+        browser.picture(folder / f"{kind}_{name}_{place}_{'dark' if is_dark else 'light'}.png")
+    if name == "many":
+        print(f"{kind}: {differing(browser)}")
+    print(f"{kind}: {name}", flush=True)
+
+
+def drive(kind: str, page: Path, folder: Path, scenes: list[str]) -> None:
+    """Plays scenes in a browser."""
     with tempfile.TemporaryDirectory(ignore_cleanup_errors=True) as home:
         browser: Browser = Chromium(home) if kind == "chromium" else Firefox(home)
-        for name, scene in SCENES.items():
-            if chosen and name not in chosen:
-                continue
-            for size, place in ((DESK, "desk"), (PHONE, "phone")):
-                for is_dark in (False, True):
-                    picture = f"{kind}_{name}_{place}_{'dark' if is_dark else 'light'}.png"
-                    browser.show(page.resolve().as_uri(), size, is_dark)
-                    scene(browser)
-                    browser.picture(folder / picture)
-                    if name == "many" and place == "desk" and not is_dark:
-                        print(f"{kind}: {differing(browser)}")
-            print(f"{kind}: {name}")
+        for name in scenes:
+            play(browser, kind, name, page, folder)
         outside = [url for url in browser.requests if is_outside(url)]
         print(f"{kind}: {len(browser.requests)} requests, {len(outside)} to the outside", *outside)
         browser.end()
@@ -420,7 +423,7 @@ def main() -> int:
     scenes = [word for word in words if word in SCENES]
     Path(folder).mkdir(parents=True, exist_ok=True)
     for kind in kinds or ["chromium", "firefox"]:
-        drive(kind, Path(page), Path(folder), scenes)
+        drive(kind, Path(page), Path(folder), scenes or list(SCENES))
     return 0
 
 
