@@ -4,9 +4,9 @@
     python3 web/drive.py PAGE FOLDER [chromium|firefox ..] [SCENE ..]
 
 Each scene opens the page anew with files of `examples`, on a desk and a phone, light and dark; the
-pictures go into FOLDER. What the table says is compared with the program where crates/pclcheck/out/pclcheck or the variable
-PCLCHECK is one. Tells what a page asked the network for, which has to be nothing. Not part of the
-gate. Needs Debian's chromium or firefox-esr.
+pictures go into FOLDER. What the table says is compared with the program, where
+crates/pclcheck/out/pclcheck or the variable PCLCHECK is one. Tells what a page asked the network
+for, which has to be nothing. Not part of the gate. Needs Debian's chromium or firefox-esr.
 """
 
 import base64
