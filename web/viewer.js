@@ -157,7 +157,7 @@ function toldOfPage({ printer, result, page }) {
   if (result.kind !== "panel") return [say("pageFails"), ...told];
   const field = /\((\w+)\)/.exec(result.finding)?.[1].toLowerCase() ?? "";
   const values = (panel.get(field) ?? []).slice(1).map((it) => valueName(field, it)).join(", ");
-  return [...told, say("pageUnset", { field, values })];
+  return values === "" ? told : [...told, say("pageUnset", { field, values })];
 }
 
 // The fields of a panel with the values that a profile allows.
