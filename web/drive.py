@@ -19,7 +19,7 @@ import subprocess
 import sys
 import tempfile
 import time
-from collections.abc import Callable
+from collections.abc import Callable, Iterator
 from pathlib import Path
 from typing import Any, Protocol
 
@@ -305,6 +305,67 @@ def see_fast(browser: Browser) -> None:
         print(f"  14 MB on 21 printers, and a page: {time.monotonic() - start:.1f} s")
 
 
+# Asks a worker of the page's own for the sentence, the notes and the picture of a job.
+ASKS = """
+    const decoded = (text) => Uint8Array.from(atob(text.trim()), (it) => it.charCodeAt(0));
+    const text = (id) => document.getElementById(id).textContent;
+    const source = new Blob([text('worker')], {type: 'text/javascript'});
+    const worker = new Worker(URL.createObjectURL(source));
+    let count = 0;
+    window.tell = async (job, profile, name) => {
+      const question = {job: {id: ++count, file: new Blob([decoded(job)])}};
+      const ask = (call, given) => new Promise((done) => {
+        worker.onmessage = ({data}) => { if (!data.read) done(data); };
+        worker.postMessage({...question, call, given});
+      });
+      const check = await ask('check', [[decoded(profile)], name]);
+      const notes = await ask('notes', [decoded(profile)]);
+      const picture = await ask('picture', [decoded(profile), 1, name]);
+      return [check.failure?.name ?? check.value.sentence, notes.failure?.name ?? notes.value.text,
+        picture.failure?.name ?? await picture.value.image.text()];
+    };
+    return WebAssembly.compile(decoded(text('module'))).then((it) => worker.postMessage({module: it}));
+"""
+
+
+def told_by_program(job: bytes, profile: Path, name: str) -> list[str]:
+    """The sentence, the notes and the picture that the program writes of a job."""
+    with tempfile.TemporaryDirectory() as folder:
+        Path(folder, name).write_bytes(job)
+        said = [subprocess.run([PROGRAM, *words], cwd=folder, capture_output=True, text=True,
+                               check=False).stdout
+                for words in (("check", "--format", "words", "-p", str(profile), name),
+                              ("notes", name, str(profile)),
+                              ("picture", name, str(profile), "--page", "1"))]
+    return [said[0].removesuffix("\n"), said[1], said[2] or "NoPage"]
+
+
+def changed_jobs(count: int) -> Iterator[bytes]:
+    """Jobs of the examples with some bytes at random."""
+    chance = random.Random(86)
+    for _ in range(count):
+        job = bytearray(chance.choice(JOBS).read_bytes())
+        for _ in range(chance.randrange(1, 4)):
+            at = chance.randrange(len(job))
+            job[at:at + chance.randrange(3)] = chance.randbytes(chance.randrange(3))
+        yield bytes(job)
+
+
+def see_same(browser: Browser) -> None:
+    """Tells how many answers of the page's module differ from the program's, to the byte."""
+    wait(browser, "document.body && document.body.dataset.ready")
+    browser.run(ASKS)
+    pairs = [(job.read_bytes(), it) for job in JOBS if job.stat().st_size < 1 << 20
+             for it in PRINTERS]
+    pairs += [(job, PRINTERS[at % 4]) for at, job in enumerate(changed_jobs(200))]
+    differ = 0
+    for job, profile in pairs:
+        given = (base64.b64encode(it).decode() for it in (job, profile.read_bytes()))
+        told = browser.run("return window.tell('{}', '{}', 'job.pcl')".format(*given))
+        differ += told != told_by_program(job, profile, "job.pcl")
+    print(f"  {len(pairs)} jobs: {differ} differ in sentence, notes or picture", flush=True)
+
+
 def see_ways(browser: Browser) -> None:
     """A job that is dropped, one that is pasted, and one whose text is typed."""
     wait(browser, "document.body && document.body.dataset.ready")
@@ -363,9 +424,12 @@ SCENES: dict[str, Callable[[Browser], None]] = {
     "report": see_report,
     "hostile": see_hostile,
     "fast": see_fast,
+    "same": see_same,
     "notes": see("open_ends.pcl", "document.querySelectorAll('#notes details')"
                  f".forEach(it => {{ it.open = true; }}); {TO_TOLD}"),
 }
+
+TOLD = ("ways", "hostile", "fast", "same")
 
 
 def table(browser: Browser) -> dict[str, str]:
@@ -396,8 +460,8 @@ def is_outside(url: str) -> bool:
 
 
 def play(browser: Browser, kind: str, name: str, page: Path, folder: Path) -> None:
-    """Plays a scene in each look, and takes its pictures."""
-    for size, place, is_dark in LOOKS:
+    """Plays a scene in each look, and takes its pictures; what is told of it is told once."""
+    for size, place, is_dark in LOOKS[:1] if name in TOLD else LOOKS:
         browser.show(page.resolve().as_uri(), size, is_dark)
         SCENES[name](browser)
         browser.picture(folder / f"{kind}_{name}_{place}_{'dark' if is_dark else 'light'}.png")
