@@ -324,7 +324,8 @@ ASKS = """
       return [check.failure?.name ?? check.value.sentence, notes.failure?.name ?? notes.value.text,
         picture.failure?.name ?? await picture.value.image.text()];
     };
-    return WebAssembly.compile(decoded(text('module'))).then((it) => worker.postMessage({module: it}));
+    return WebAssembly.compile(decoded(text('module')))
+      .then((module) => worker.postMessage({module}));
 """
 
 
