@@ -150,7 +150,10 @@ class Firefox:
     """Firefox, by Marionette. It tells no requests here; Chromium does."""
 
     def __init__(self, home: str) -> None:
-        prefs = {"marionette.port": 2929, "browser.shell.checkDefaultBrowser": False,
+        with socket.socket() as free:
+            free.bind(("127.0.0.1", 0))
+            self.port = free.getsockname()[1]
+        prefs = {"marionette.port": self.port, "browser.shell.checkDefaultBrowser": False,
                  "datareporting.policy.dataSubmissionEnabled": False}
         lines = [f"user_pref({json.dumps(name)}, {json.dumps(it)});" for name, it in prefs.items()]
         Path(home, "user.js").write_text("\n".join(lines))
@@ -166,7 +169,7 @@ class Firefox:
     def connect(self) -> socket.socket:
         for _ in range(int(PATIENCE * 5)):
             try:
-                return socket.create_connection(("127.0.0.1", 2929))
+                return socket.create_connection(("127.0.0.1", self.port))
             except OSError:
                 time.sleep(0.2)
         raise RuntimeError("firefox does not answer")
