@@ -140,10 +140,11 @@ async function put(picture) {
   drawn = picture;
   byId("sheet").hidden = false;
   byId("page-told").textContent = toldOfPage(shown).join(" ");
+  pointer = { x: 0, y: 0 };
   layOut();
-  point(drawn.failure ?? { x: 0, y: 0 });
   // What fails comes into the middle.
-  byId("view").scrollTo(0, (pointer.y * inch()) / UNITS_PER_INCH - byId("view").clientHeight / 2);
+  const down = ((drawn.failure?.y ?? 0) * inch()) / UNITS_PER_INCH;
+  byId("view").scrollTo(0, down - byId("view").clientHeight / 2);
 }
 
 // What is told above a page: its panel, and what it shows of the failure.
