@@ -382,8 +382,10 @@ def see_ways(browser: Browser) -> None:
         const how = {bubbles: true, cancelable: true};
         const drop = new DragEvent('drop', {...how, dataTransfer: given('dropped')});
         document.body.dispatchEvent(drop);
-        const paste = new ClipboardEvent('paste', {...how, clipboardData: given('pasted')});
-        document.body.dispatchEvent(paste);
+        // Chromium takes files that a script pastes, Firefox a text.
+        const text = {dataType: 'text/plain', data: '\\x1bEA\\x1bE'};
+        const pasted = {...how, ...text, clipboardData: given('pasted')};
+        document.body.dispatchEvent(new ClipboardEvent('paste', pasted));
         document.getElementById('pasted').value = '\\\\x1bEtyped\\\\x1bE';
         document.getElementById('add-pasted').click();
         document.getElementById('try').click();""")
