@@ -128,9 +128,10 @@ const checkers = Math.max(1, Math.min(4, (navigator.hardwareConcurrency || 2) - 
 const lanes = [new Lane(true, true)];
 for (let i = 0; i < checkers; i++) lanes.push(new Lane(false, i === 0));
 
-/** Makes ready what calls need. */
+/** Makes ready what the first calls need. */
 export async function start() {
   compiled = await module;
+  for (const lane of lanes.slice(0, 2)) lane.ready();
 }
 
 // Tells how much of a large job is read.
