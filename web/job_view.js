@@ -153,9 +153,12 @@ async function showItems(job, place) {
   const end = items.find((item) => item.place > place)?.place ?? place + 1;
   const bytes = await bytesAround(job, place, end);
   if (!isStill()) return;
+  /** @type {HTMLElement[]} */
   const rows = items.map((item) =>
     make(item.place === place ? "mark" : "span", {}, `${item.place} ${item.spelling}\n`),
   );
+  // Bytes that are no item, and the end of the job, have no line of their own.
+  if (!items.some((item) => item.place === place)) rows.push(make("mark", {}, `${place}\n`));
   byId("items").replaceChildren(
     make("h3", {}, say("items", { place })),
     make("pre", { tabIndex: 0 }, ...rows),
