@@ -152,7 +152,9 @@ def in_order(manner: Manner, number: int, old: Page, new: Page) -> Iterator[Diff
             at = (number, i + min(k, of_old) + 1, j + min(k, of_new) + 1)
             if k < pairs:
                 one, other = old.marks[i + k], new.marks[j + k]
-                yield Difference(*at, one.place, other.place, change_of(one.line, other.line))
+                if not near(one, other):
+                    change = change_of(one.line, other.line)
+                    yield Difference(*at, one.place, other.place, change)
             elif of_old > of_new:
                 yield Difference(*at, old.marks[i + k].place, new_end, "only in OLD")
             else:

@@ -27,7 +27,7 @@ use Rattle.page_comparison.specs.declared.turn.Turn.{Turn}
 use Rattle.page_comparison.specs.AnyOrder.{Matching, all_in_any_order, first_free, free_told, in_any_order, mark_told, matched_with}
 use Rattle.page_comparison.specs.AnyOrder.{stand_at}
 use Rattle.page_comparison.specs.InOrder.{all_in_order, in_order, is_resumed, leaving, leavings, nearest, splits, turn_told}
-use Rattle.page_comparison.specs.Marks.{edges_of, is_near_mark}
+use Rattle.page_comparison.specs.Marks.{changed, edges_of, is_near_mark}
 use Rattle.page_comparison.specs.Pages.{MadeMark, shapes_of}
 use Rattle.page_comparison.specs.Told.{behind, difference_at, first_standing, left_out, next_place}
 use Rattle.page_comparison.proofs.Free.{AreBefore, before_more, none_crossed}
@@ -194,12 +194,19 @@ nearest_leaves within old new =
     found_in IsLeaving (is_resumed within old new) (leavings 1 64) (leaving 1 1) (leavings_leave 1 64 (omega arith))
     (record { differs = refl; some = omega arith })
 
-left_some : (old_place new_place : ℕ) (at : Standing) (i j : ℕ) (a b : MadeMark) (old new : List MadeMark)
-    (rest : List PageDifference) → 0 < i + j → left_out old_place new_place at (take i (a ∷ old)) (take j (b ∷ new)) ++ rest ≡ [] → ⊥
-left_some old_place new_place at zero zero a b old new rest some e = absurd (omega (arith, some))
-left_some old_place new_place at zero (suc j) a b old new rest some e = cc
-left_some old_place new_place at (suc i) zero a b old new rest some e = cc
-left_some old_place new_place at (suc i) (suc j) a b old new rest some e = cc
+-- where the first two marks are not near
+left_some : (within old_place new_place : ℕ) (at : Standing) (i j : ℕ) (a b : MadeMark) (old new : List MadeMark)
+    (rest : List PageDifference) → is_near_mark within a b ≡ false → 0 < i + j →
+    left_out within old_place new_place at (take i (a ∷ old)) (take j (b ∷ new)) ++ rest ≡ [] → ⊥
+left_some within old_place new_place at zero zero a b old new rest other some e = absurd (omega (arith, some))
+left_some within old_place new_place at zero (suc j) a b old new rest other some e = cc
+left_some within old_place new_place at (suc i) zero a b old new rest other some e = cc
+left_some within old_place new_place at (suc i) (suc j) a b old new rest other some e =
+    let told : PageDifference = difference_at at a.place b.place (changed a b) in
+    let left : List PageDifference = left_out within old_place new_place (behind 1 1 at) (take i old) (take j new) in
+    let none : told ∷ (left ++ rest) ≡ [] =
+    sym (ap (λ (t : Bool). ((if t then [] else told ∷ []) ++ left) ++ rest) other) ∙ e in
+    cc
 
 -- ---- in their order
 
@@ -210,15 +217,15 @@ module _ (setting : Setting) where
       ++ in_order setting turns (behind turn.old turn.new at) (drop turn.old old) (drop turn.new new)
 
   never_left : (turns : ℕ) (at : Standing) (a b : MadeMark) (old new : List MadeMark) (turn : Turn) → IsLeaving turn →
-      turned turns at (a ∷ old) (b ∷ new) turn ≡ [] → ⊥
-  never_left turns at a b old new turn leaves e =
+      is_near_mark setting.within a b ≡ false → turned turns at (a ∷ old) (b ∷ new) turn ≡ [] → ⊥
+  never_left turns at a b old new turn leaves other e =
       let rest : List PageDifference =
       in_order setting turns (behind turn.old turn.new at) (drop turn.old (a ∷ old)) (drop turn.new (b ∷ new)) in
       let left : List PageDifference =
-      left_out (next_place setting.old_end (drop turn.old (a ∷ old))) (next_place setting.new_end (drop turn.new (b ∷ new))) at
-      (take turn.old (a ∷ old)) (take turn.new (b ∷ new)) in
-      left_some (next_place setting.old_end (drop turn.old (a ∷ old))) (next_place setting.new_end (drop turn.new (b ∷ new))) at
-      turn.old turn.new a b old new rest leaves.some
+      left_out setting.within (next_place setting.old_end (drop turn.old (a ∷ old)))
+      (next_place setting.new_end (drop turn.new (b ∷ new))) at (take turn.old (a ∷ old)) (take turn.new (b ∷ new)) in
+      left_some setting.within (next_place setting.old_end (drop turn.old (a ∷ old)))
+      (next_place setting.new_end (drop turn.new (b ∷ new))) at turn.old turn.new a b old new rest other leaves.some
       (sym (ap (λ (t : Bool). (if t then [] else left) ++ rest) leaves.differs) ∙ e)
 
   ordered_near : (turns : ℕ) (at : Standing) (old new : List MadeMark) → length old + length new ≤ turns →
@@ -242,7 +249,7 @@ module _ (setting : Setting) where
       by_test false other rest h =
           absurd
           (never_left turns at a b old new (nearest setting.within (a ∷ old) (b ∷ new))
-          (nearest_leaves setting.within (a ∷ old) (b ∷ new)) h)
+          (nearest_leaves setting.within (a ∷ old) (b ∷ new)) other h)
 
   near_ordered : (turns : ℕ) (at : Standing) (old new : List MadeMark) → all_near setting.within old new ≡ true →
       in_order setting turns at old new ≡ []

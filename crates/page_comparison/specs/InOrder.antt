@@ -59,8 +59,8 @@ turn_of within (a ∷ old) (b ∷ new) =
 abbrev pub turn_told : Setting → Standing → List MadeMark → List MadeMark → Turn → List PageDifference
 turn_told setting at old new turn =
     if turn.same then []
-    else left_out (next_place setting.old_end (drop turn.old old)) (next_place setting.new_end (drop turn.new new)) at
-    (take turn.old old) (take turn.new new)
+    else left_out setting.within (next_place setting.old_end (drop turn.old old))
+    (next_place setting.new_end (drop turn.new new)) at (take turn.old old) (take turn.new new)
 
 -- the differences of the rests of two pages, in so many turns
 abbrev pub in_order : Setting → (turns : ℕ) → Standing → List MadeMark → List MadeMark → List PageDifference
