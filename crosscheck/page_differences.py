@@ -182,6 +182,12 @@ def in_any_order(manner: Manner, number: int, old: Page, new: Page) -> Iterator[
 
 # ---- all pages
 
+def end_change(old: Optional[str], new: Optional[str]) -> str:
+    if old is None:
+        return "only in NEW"
+    return "only in OLD" if new is None else "page ends otherwise"
+
+
 def pages_of(made: List[Made], end: int) -> List[Page]:
     """The pages of a job that ends at this byte; the last one may have no end."""
     pages: List[Page] = []
@@ -206,6 +212,6 @@ def differences(manner: Manner, old: List[Page], new: List[Page], old_end: int,
         of_page = list(match(manner, at + 1, one, other))
         if one.end != other.end:
             of_page.append(Difference(at + 1, len(one.marks) + 1, len(other.marks) + 1, one.place,
-                                      other.place, "page ends otherwise"))
+                                      other.place, end_change(one.end, other.end)))
         found.append(of_page)
     return found
