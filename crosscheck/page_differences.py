@@ -8,6 +8,7 @@ from typing import Callable, Iterator, List, NamedTuple, Optional, Tuple
 
 TICKS_PER_7200TH = 5_080_000
 MOST_LEFT_OUT = 64
+LONGEST_RUN = 4096
 # Of a line of `pages`: the words that say where a mark stands, and from which on these are edges.
 PLACES = {"glyph": 9, "rect": 3, "row": 2, "line": 2}
 
@@ -133,6 +134,11 @@ def left_out(near: Callable, old: List[Made], new: List[Made], i: int, j: int) -
             if (i + of_old <= len(old) and j + of_new <= len(new)
                     and goes_alike(near, old, new, i + of_old, j + of_new)):
                 return of_old, of_new
+    for run in range(MOST_LEFT_OUT + 1, LONGEST_RUN + 1):
+        if j + run <= len(new) and goes_alike(near, old, new, i, j + run):
+            return 0, run
+        if i + run <= len(old) and goes_alike(near, old, new, i + run, j):
+            return run, 0
     return 1, 1
 
 

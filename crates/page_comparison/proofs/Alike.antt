@@ -26,7 +26,8 @@ use Rattle.page_comparison.specs.declared.standing.Standing.{Standing}
 use Rattle.page_comparison.specs.declared.turn.Turn.{Turn}
 use Rattle.page_comparison.specs.AnyOrder.{Matching, all_in_any_order, first_free, free_told, in_any_order, mark_told, matched_with}
 use Rattle.page_comparison.specs.AnyOrder.{stand_at}
-use Rattle.page_comparison.specs.InOrder.{all_in_order, in_order, is_resumed, leaving, leavings, nearest, splits, turn_told}
+use Rattle.page_comparison.specs.InOrder.{all_in_order, in_order, is_resumed, leaving, leavings, nearest, runs, splits}
+use Rattle.page_comparison.specs.InOrder.{turn_told, ways}
 use Rattle.page_comparison.specs.Marks.{changed, edges_of, is_near_mark}
 use Rattle.page_comparison.specs.Pages.{MadeMark, shapes_of}
 use Rattle.page_comparison.specs.Told.{behind, difference_at, first_standing, left_out, next_place}
@@ -179,6 +180,20 @@ leavings_leave together (suc times) some =
     all_behind IsLeaving (splits 0 together) (leavings (together + 1) times) (splits_leave 0 together here)
     (leavings_leave (together + 1) times more)
 
+runs_leave : (many times : ℕ) → 0 < many → AllByRecursion IsLeaving (runs many times)
+unfolding runs
+runs_leave many zero some = tt
+runs_leave many (suc times) some =
+    let of_new : 0 < 0 + many = omega (arith, some) in
+    let of_old : 0 < many + 0 = omega (arith, some) in
+    let more : 0 < many + 1 = omega arith in
+    (record { differs = refl; some = of_new }, record { differs = refl; some = of_old }, runs_leave (many + 1) times more)
+
+ways_leave : AllByRecursion IsLeaving ways
+unfolding ways
+ways_leave =
+    all_behind IsLeaving (leavings 1 64) (runs 65 4032) (leavings_leave 1 64 (omega arith)) (runs_leave 65 4032 (omega arith))
+
 found_in : {X : Type 0} (P : X → Type 0) (p : X → Bool) (xs : List X) (otherwise : X) → AllByRecursion P xs → P otherwise →
     P (unwrap_or (find p xs) otherwise)
 found_in P p [] otherwise h k = k
@@ -191,7 +206,7 @@ found_in P p (x ∷ xs) otherwise h k = by_test (p x) (found_in P p xs otherwise
 nearest_leaves : (within : ℕ) (old new : List MadeMark) → IsLeaving (nearest within old new)
 unfolding nearest
 nearest_leaves within old new =
-    found_in IsLeaving (is_resumed within old new) (leavings 1 64) (leaving 1 1) (leavings_leave 1 64 (omega arith))
+    found_in IsLeaving (is_resumed within old new) ways (leaving 1 1) ways_leave
     (record { differs = refl; some = omega arith })
 
 -- where the first two marks are not near
