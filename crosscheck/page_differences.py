@@ -109,6 +109,12 @@ def overlap(old: Made, new: Made) -> bool:
             and top < other_bottom and other_top < bottom)
 
 
+def hides(old: Made, new: Made) -> bool:
+    """They overlap, and exactly one is white: the later one of them covers the other."""
+    one, other = (mark.line.startswith("rect 1 ") for mark in (old, new))
+    return one != other and overlap(old, new)
+
+
 # ---- two pages
 
 def place_behind(page: Page, at: int) -> int:
@@ -177,7 +183,7 @@ def in_any_order(manner: Manner, number: int, old: Page, new: Page) -> Iterator[
             yield Difference(number, at, len(new.marks) + 1, mark.place, new.place, "only in OLD")
             continue
         free.remove(found)
-        if any(found < later and overlap(earlier, mark) for later, earlier in matched):
+        if any(found < later and hides(earlier, mark) for later, earlier in matched):
             yield Difference(number, at, found + 1, mark.place, new.marks[found].place,
                              "covered otherwise")
         matched.append((found, mark))

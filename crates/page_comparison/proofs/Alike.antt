@@ -28,7 +28,7 @@ use Rattle.page_comparison.specs.AnyOrder.{Matching, all_in_any_order, first_fre
 use Rattle.page_comparison.specs.AnyOrder.{stand_at}
 use Rattle.page_comparison.specs.InOrder.{all_in_order, in_order, is_resumed, leaving, leavings, nearest, runs, splits}
 use Rattle.page_comparison.specs.InOrder.{turn_told, ways}
-use Rattle.page_comparison.specs.Marks.{changed, edges_of, is_near_mark}
+use Rattle.page_comparison.specs.Marks.{changed, footprint_of, is_near_mark}
 use Rattle.page_comparison.specs.Pages.{MadeMark, shapes_of}
 use Rattle.page_comparison.specs.Told.{behind, difference_at, first_standing, left_out, next_place}
 use Rattle.page_comparison.proofs.Free.{AreBefore, before_more, none_crossed}
@@ -326,12 +326,12 @@ module _ (setting : Setting) where
       let all : List MadeMark = front ++ b ∷ new in
       let falses : List Bool = map (λ mark. false) new in
       let state : Matching = record { taken = replicate n true ++ false ∷ falses; earlier = earlier } in
-      let later : List Matched = earlier ++ record { new = n; edges = edges_of a.shape } ∷ [] in
+      let later : List Matched = earlier ++ record { new = n; footprint = footprint_of a.shape } ∷ [] in
       let found = first_here a b front new falses both.0 in
       let told : PageDifference =
       difference_at (stand_at setting.page number (n + 1)) a.place (next_place setting.new_end (drop n all)) Covers in
       let few : n ≤ n + 1 = omega arith in
-      let crossed = none_crossed n n (edges_of a.shape) earlier few before in
+      let crossed = none_crossed n n (footprint_of a.shape) earlier few before in
       let taken_is : set (replicate n true ++ false ∷ falses) n true ≡ replicate (length (front ++ b ∷ [])) true ++ falses =
       set_at (replicate n true) false falses true n (length_true n)
       ∙ (sym (append_assoc (replicate n true) (true ∷ []) falses) ∙ ap (λ l. l ++ falses) (all_true front b)) in
@@ -344,7 +344,7 @@ module _ (setting : Setting) where
       ∙ ((λ i. in_any_order setting (sym (append_assoc front (b ∷ []) new) i) (number + 1)
       (record { taken = taken_is i; earlier = later }) old)
       ∙ near_any old new (front ++ b ∷ []) (number + 1) later
-      (before_more n (length (front ++ b ∷ [])) earlier n (edges_of a.shape) beyond before) both.1))
+      (before_more n (length (front ++ b ∷ [])) earlier n (footprint_of a.shape) beyond before) both.1))
 
   pub near_in_any_order : (old new : List MadeMark) → all_near setting.within old new ≡ true →
       all_in_any_order setting old new ≡ []

@@ -46,8 +46,8 @@ pub enum PageChange {
     PageOnlyInOld,
     /// NEW has the page, and OLD does not.
     PageOnlyInNew,
-    /// The mark of OLD overlaps one that OLD makes before it and NEW behind it: one covers the
-    /// other otherwise.
+    /// The mark of OLD overlaps one that OLD makes before it and NEW behind it, and exactly one of
+    /// them is white: it covers otherwise.
     Covers,
 }
 
