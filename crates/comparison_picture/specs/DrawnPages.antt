@@ -37,7 +37,7 @@ holding paper other = record paper {
   page_height = longer paper.page_height other.page_height;
 }
 
--- the paper of a page by the values with which it ends: of a page that both have that of OLD, which holds that of NEW too
+-- the paper of a page by the values with which it ends: of a page that both have OLD's, which holds NEW's too
 abbrev pub paper_at : List Geometry → (old_end new_end : Option PageEnd) → Geometry
 paper_at geometries (Some old_end) (Some new_end) =
     holding (geometry_at geometries old_end.size old_end.orientation)
