@@ -24,8 +24,8 @@ pub struct DrawnPage<'p, A: Allocator> {
     pub differences: Vec<PageDifference, A>,
 }
 
-/// The paper of a page that ends so in OLD and in NEW: of a page that both have OLD's, as wide and as
-/// high as holds NEW's too.
+/// The paper of a page that ends so in OLD and in NEW: of a page that both have OLD's, as wide and
+/// as high as holds NEW's too.
 pub fn paper_of<P: Allocator>(
     profile: &Profile<P>,
     old_end: Option<PageEnd>,

@@ -28,8 +28,8 @@ use Rattle.page_comparison.specs.declared.differences.PageDifference.{PageDiffer
 use Rattle.page_comparison.specs.declared.setting.Setting.{Setting}
 use Rattle.page_comparison.specs.AnyOrder.{stand_at}
 use Rattle.page_comparison.specs.Comparison.{SamePages, ToldPages, are_same_ends, by_page, comparison_from, differing_pairs, differs}
-use Rattle.page_comparison.specs.Comparison.{NewFailing, OldFailing, OtherPages, end_change, ends_compared, failing_or, listing_of, marks_compared}
-use Rattle.page_comparison.specs.Comparison.{pages_compared, pairs_of, setting_of}
+use Rattle.page_comparison.specs.Comparison.{NewFailing, OldFailing, OtherPages, end_change, ends_compared, failing_or, listing_of}
+use Rattle.page_comparison.specs.Comparison.{marks_compared, pages_compared, pairs_of, setting_of}
 use Rattle.page_comparison.specs.Laws.{AreSame, IsExact, IsSameAsItself, NeedsNoOrder, near_by}
 use Rattle.page_comparison.specs.Pages.{MadeMark, MadePage, by_event, last_page, no_page, paired, pages_counted, pages_from, pages_of}
 use Rattle.page_comparison.specs.Pages.{shapes_of}

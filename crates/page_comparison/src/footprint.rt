@@ -1,6 +1,6 @@
 //! What a mark covers, and what covers it.
 
-ghost use Rattle.std.specs.Prelude.{◌≡◌, not, if◌then◌else◌};
+ghost use Rattle.std.specs.Prelude.{◌≡◌};
 ghost use Rattle.page_comparison.specs.Marks.{
   footprint_of,
   hides,

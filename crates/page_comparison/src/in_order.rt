@@ -95,8 +95,8 @@ fn tell_left_out<A: Allocator>(
     new: &[PlacedMark<A>],
     listing: &mut Listing<A>,
 ) -> Result<(), AllocError>
-    ensures { OnOk result (listing.new ≡ kept_all
-        (left_out within next.0 next.1 start (made_marks old.now) (made_marks new.now)) listing.old) }
+    ensures { OnOk result (listing.new ≡ kept_all (left_out within next.0 next.1 start
+        (made_marks old.now) (made_marks new.now)) listing.old) }
 {
     let pairs = old.len().min(new.len());
     let mut at = start;
