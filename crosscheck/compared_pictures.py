@@ -42,8 +42,7 @@ def pages_that_differ(profile: Profile, manner: Manner, old: compares.Run,
     before, after = pages_of(old.made, old.end), pages_of(new.made, new.end)
     found = differences(manner, before, after, old.end, new.end)
     pages = zip_longest(before, after, fillvalue=NO_PAGE)
-    return [DifferingPage(number, paper(profile, one.end or other.end), one.marks, other.marks,
-                          told)
+    return [DifferingPage(number, paper(profile, one.end, other.end), one.marks, other.marks, told)
             for number, ((one, other), told) in enumerate(zip(pages, found), start=1) if told]
 
 

@@ -5,8 +5,8 @@ page has the marks of both jobs as lines of `pages`, each with the byte of its i
 differs of them. The marks are drawn by `drawing.py`.
 """
 
-from dataclasses import dataclass
-from typing import List, Tuple
+from dataclasses import dataclass, replace
+from typing import List, Optional, Tuple
 
 from drawing import Sheet, hundredths, mark, sentence_text, units
 from page_differences import Difference, Made
@@ -124,7 +124,16 @@ def sheet_of(page: DifferingPage, sentence: bytes, has_patterns: bool) -> str:
 
 # ---- the picture of a page
 
-def paper(profile: Profile, end: str) -> Sheet:
+def paper(profile: Profile, old_end: Optional[str], new_end: Optional[str]) -> Sheet:
+    """OLD's sheet of a page, which holds NEW's too; of a page that one job lacks the other's."""
+    if not old_end or not new_end:
+        return sheet_by(profile, old_end or new_end)
+    sheet, other = sheet_by(profile, old_end), sheet_by(profile, new_end)
+    return replace(sheet, width=max(sheet.width, other.width),
+                   height=max(sheet.height, other.height))
+
+
+def sheet_by(profile: Profile, end: str) -> Sheet:
     """The sheet of a page that ends with this line."""
     values = dict(word.split("=") for word in end.split() if "=" in word)
     page = profile.geometries[int(values["size"]), int(values["orientation"])]
@@ -134,7 +143,6 @@ def paper(profile: Profile, end: str) -> Sheet:
     return Sheet(width=page.page_width * PER_7200, height=page.page_height * PER_7200,
                  logical=logical, printable=printable, text=logical, frame=logical, cursor=(0, 0),
                  mark=None)
-
 
 
 def pixels(ticks: int, more: int) -> str:

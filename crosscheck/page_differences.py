@@ -8,6 +8,7 @@ from typing import Callable, Iterator, List, NamedTuple, Optional, Tuple
 
 TICKS_PER_7200TH = 5_080_000
 MOST_LEFT_OUT = 64
+LONGEST_RUN = 4096
 # Of a line of `pages`: the words that say where a mark stands, and from which on these are edges.
 PLACES = {"glyph": 9, "rect": 3, "row": 2, "line": 2}
 
@@ -108,6 +109,12 @@ def overlap(old: Made, new: Made) -> bool:
             and top < other_bottom and other_top < bottom)
 
 
+def hides(old: Made, new: Made) -> bool:
+    """They overlap, and exactly one is white: the later one of them covers the other."""
+    one, other = (mark.line.startswith("rect 1 ") for mark in (old, new))
+    return one != other and overlap(old, new)
+
+
 # ---- two pages
 
 def place_behind(page: Page, at: int) -> int:
@@ -133,6 +140,11 @@ def left_out(near: Callable, old: List[Made], new: List[Made], i: int, j: int) -
             if (i + of_old <= len(old) and j + of_new <= len(new)
                     and goes_alike(near, old, new, i + of_old, j + of_new)):
                 return of_old, of_new
+    for run in range(MOST_LEFT_OUT + 1, LONGEST_RUN + 1):
+        if j + run <= len(new) and goes_alike(near, old, new, i, j + run):
+            return 0, run
+        if i + run <= len(old) and goes_alike(near, old, new, i + run, j):
+            return run, 0
     return 1, 1
 
 
@@ -152,7 +164,9 @@ def in_order(manner: Manner, number: int, old: Page, new: Page) -> Iterator[Diff
             at = (number, i + min(k, of_old) + 1, j + min(k, of_new) + 1)
             if k < pairs:
                 one, other = old.marks[i + k], new.marks[j + k]
-                yield Difference(*at, one.place, other.place, change_of(one.line, other.line))
+                if not near(one, other):
+                    change = change_of(one.line, other.line)
+                    yield Difference(*at, one.place, other.place, change)
             elif of_old > of_new:
                 yield Difference(*at, old.marks[i + k].place, new_end, "only in OLD")
             else:
@@ -169,7 +183,7 @@ def in_any_order(manner: Manner, number: int, old: Page, new: Page) -> Iterator[
             yield Difference(number, at, len(new.marks) + 1, mark.place, new.place, "only in OLD")
             continue
         free.remove(found)
-        if any(found < later and overlap(earlier, mark) for later, earlier in matched):
+        if any(found < later and hides(earlier, mark) for later, earlier in matched):
             yield Difference(number, at, found + 1, mark.place, new.marks[found].place,
                              "covered otherwise")
         matched.append((found, mark))
@@ -179,6 +193,12 @@ def in_any_order(manner: Manner, number: int, old: Page, new: Page) -> Iterator[
 
 
 # ---- all pages
+
+def end_change(old: Optional[str], new: Optional[str]) -> str:
+    if old is None:
+        return "only in NEW"
+    return "only in OLD" if new is None else "page ends otherwise"
+
 
 def pages_of(made: List[Made], end: int) -> List[Page]:
     """The pages of a job that ends at this byte; the last one may have no end."""
@@ -204,6 +224,6 @@ def differences(manner: Manner, old: List[Page], new: List[Page], old_end: int,
         of_page = list(match(manner, at + 1, one, other))
         if one.end != other.end:
             of_page.append(Difference(at + 1, len(one.marks) + 1, len(other.marks) + 1, one.place,
-                                      other.place, "page ends otherwise"))
+                                      other.place, end_change(one.end, other.end)))
         found.append(of_page)
     return found

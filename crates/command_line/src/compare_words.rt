@@ -29,9 +29,11 @@ first value that its profile lists of each field. How the commands are spelled, 
 a mark comes to its place, does not matter.
 
   --any-order      the marks of a page may be made in any order: on paper the same, but that where
-                   two overlap the other one may lie on top, which is told as covered otherwise
+                   white and another mark overlap the other one may lie on top, which is told as
+                   covered otherwise
   --within LENGTH  marks are the same whose edges lie off by that at most, each for itself: on paper
-                   nothing is shifted, wider or higher by more. In mm or in, as 0.1mm and 0.004in
+                   nothing is shifted, wider or higher by more, but white may cover what it did not.
+                   Pens have to be as wide. In mm or in, as 0.1mm and 0.004in
 
 Output, one line:
   SAME pages=N marks=N
@@ -40,27 +42,29 @@ Output, one line:
   FAIL at=N printer=NAME FINDING JOB                       JOB fails there, as check tells it; what
                                                            fails in OLD comes first
 
-  page=, mark=  the page, and the mark on it, both from 1; of the end of a page the mark behind its
-                last one
+  page=, mark=  the page, and the mark on it in OLD, both from 1: of what only NEW has, that in NEW;
+                of the end of a page the mark behind its last one
   old=, new=    the byte of the command in OLD and in NEW that makes the mark or ends the page; where
                 a job makes nothing more, its length
   CHANGE        moved: the mark stands elsewhere, and is else the same; changed: another one stands
                 there; only in OLD, only in NEW: the other one has no further mark on the page, or no
                 page; page ends otherwise: by one of its five values; covered otherwise: NEW makes
-                the mark and an earlier one that it overlaps in the other order
+                the mark and an earlier one that it overlaps in the other order, and one is white
 
 With --all a line for each difference on that printer, page by page. Marks that only one job has are
-left out, as few as possible and at most 64 together, up to where both go on alike, so that mark= is
-the number in OLD, and of what is only in NEW the one in NEW. Of more than --most differences:
+left out, as few as possible, up to where both go on alike: at most 64 together, or else 4096 of one
+job alone. Of more than --most differences:
   MORE pages=N  more are left out, and so many pages differ
 
 With --golden DIR each word is a NEW, and its OLD the file of the same name in DIR. Its lines end
-with NEW. A job that cannot be read has a line as in check, and the others are compared.
+with NEW, but where OLD fails or cannot be read with OLD. A job that cannot be read has a line as in
+check, and the others are compared; a name that is no UTF-8 text is a usage error.
 
-With --picture OUT the first page that differs is drawn into the file OUT as an SVG, with --all each
-page of that printer, 100 at most, as an HTML document: gray what both have, red what OLD has alone,
-green what NEW has alone, and beside it the differences, 55 in the SVG and 1000 a page in the
-document at most. OUT takes its place when it is whole, and is as it was where no page differs.
+With --picture OUT, not beside --golden, the first page that differs is drawn into the file OUT as
+an SVG, with --all each page of that printer, 100 at most, as an HTML document: gray what both have,
+red what OLD has alone, green what NEW has alone, and beside it the differences, 55 in the SVG and
+1000 a page in the document at most. OUT takes its place when it is whole, and is as it was where no
+page differs.
 
 With --format words each line is a sentence, with --format json an object. Both jobs are read side by
 side, once for each printer: for several printers they have to be files. --any-order, --within and

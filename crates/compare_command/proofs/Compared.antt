@@ -1,6 +1,6 @@
 -- What is found on one printer after another, and what is written of it.
-use Rattle.std.proofs.Common.{◌≡◌, ◌+◌, ◌++◌, ◌<◌, ◌≤◌, ℕ, List, [], ◌∷◌, false, length, drop, get_or, Result, Ok, Err, IfOk, ap}
-use Rattle.std.proofs.Common.{append_assoc, refl, subst, sym, ◌∙◌, Option, None, Some}
+use Rattle.std.proofs.Common.{◌≡◌, ◌+◌, ◌++◌, ◌<◌, ◌≤◌, ℕ, List, [], ◌∷◌, false, length, drop, get_or, Result, Ok, Err, IfOk}
+use Rattle.std.proofs.Common.{IfErr, ap, append_assoc, refl, subst, sym, ◌∙◌, Option, None, Some}
 use Rattle.std.proofs.lemmas.List.{drop_all, drop_more}
 use Rattle.streams.specs.declared.error.Error.{Error}
 use Rattle.streams.specs.declared.error.Error.TheVariants.{Memory, Read, Write, Turns, NoProfile, Items}
@@ -11,19 +11,35 @@ use Rattle.streams.specs.Source.{SourceState}
 use Rattle.streams.specs.Writing.{Writes}
 use Rattle.device_profile.specs.Printer.{Printer}
 use Rattle.requests.specs.declared.status.Status.TheVariants.{Stopped}
+use Rattle.comparison.specs.declared.compare.Which.{Which}
+use Rattle.comparison.specs.declared.compare.Which.TheVariants.{Old, New}
 use Rattle.comparison.specs.declared.difference.Comparison.TheVariants.{Same}
+use Rattle.comparison.specs.Comparing.{is_unread_by}
 use Rattle.comparison.specs.Running.{IsErrorOfJob}
 use Rattle.sinks.specs.declared.counts.Counts.{Counts}
 use Rattle.compare_command.specs.declared.found.Found.{Found}
 use Rattle.compare_command.specs.declared.found.Manner.{Manner}
 use Rattle.compare_command.specs.declared.found.Outcome.{Outcome}
 use Rattle.compare_command.specs.declared.found.Outcome.TheVariants.{OfEvents}
+use Rattle.compare_command.specs.declared.stops.Stop.{Stop}
 use Rattle.compare_command.specs.Outcomes.{IsOutcome, same_counts, status_by}
-use Rattle.compare_command.specs.Compare.{AreCompared, GoesOn, IsCompared, IsStop, WritesFound, first_counts, found_at}
+use Rattle.compare_command.specs.Compare.{AreCompared, GoesOn, IsCompared, StopsAt, StopsJobs, StopsReading, WritesFound}
+use Rattle.compare_command.specs.Compare.{first_counts, found_at}
 
 -- ---- on one printer
 
--- both jobs were read for a printer, one behind the other they were ended
+-- one job was ended behind the other
+both_ended : (old new old_word new_word : List ℕ) (old_now new_now : SourceState) (ended between ended' : List JobRead) →
+    old_word ≡ old → new_word ≡ new → between ≡ ended ++ job_read old_word old_now ∷ [] →
+    ended' ≡ between ++ job_read new_word new_now ∷ [] → ended' ≡ ended ++ (job_read old old_now ∷ job_read new new_now ∷ [])
+both_ended old new old_word new_word old_now new_now ended between ended' old_is new_is first second =
+    let one = subst (λ (n : List ℕ). between ≡ ended ++ job_read n old_now ∷ []) old_is first in
+    let other = subst (λ (n : List ℕ). ended' ≡ between ++ job_read n new_now ∷ []) new_is second in
+    other
+    ∙ (ap (λ front. front ++ job_read new new_now ∷ []) one
+    ∙ append_assoc ended (job_read old old_now ∷ []) (job_read new new_now ∷ []))
+
+-- both jobs were read for a printer
 is_compared : (manner : Manner) (start : List ℕ → SourceState) (old new old_word new_word : List ℕ) (number : ℕ) (printer : Printer)
     (old_first old_now new_first new_now : SourceState) (ended between ended' : List JobRead) → old_word ≡ old → new_word ≡ new →
     old_first ≡ start old_word → new_first ≡ start new_word → between ≡ ended ++ job_read old_word old_now ∷ [] →
@@ -42,16 +58,11 @@ is_compared manner start old new old_word new_word number printer old_first old_
     (λ (s : SourceState). ByReads (start old) old_now (λ one. ByReads s new_now (λ other.
     IsOutcome manner number printer one other outcome)))
     (new_begun ∙ ap start new_is) begun in
-    let one = subst (λ (n : List ℕ). between ≡ ended ++ job_read n old_now ∷ []) old_is first in
-    let other = subst (λ (n : List ℕ). ended' ≡ between ++ job_read n new_now ∷ []) new_is second in
     record {
       old_read = old_now;
       new_read = new_now;
       each = both;
-      ended_is =
-          other
-          ∙ (ap (λ front. front ++ job_read new new_now ∷ []) one
-          ∙ append_assoc ended (job_read old old_now ∷ []) (job_read new new_now ∷ []));
+      ended_is = both_ended old new old_word new_word old_now new_now ended between ended' old_is new_is first second;
     }
 
 pub jobs_compared : {E : Type 0} (r : Result Outcome E) (manner : Manner) (start : List ℕ → SourceState)
@@ -69,14 +80,58 @@ jobs_compared (Ok outcome) manner start old new old_word new_word number printer
 jobs_compared (Err e) manner start old new old_word new_word number printer old_first old_now new_first new_now ended between ended' old_is
     new_is old_begun new_begun first second each = tt
 
--- an error that is no failed read stops the work
-pub error_stops : (error : Error) → IsErrorOfJob error → (error ≡ Read → ⊥) → IsStop (Stopped error)
-error_stops Memory h other = tt
-error_stops Read h other = absurd (other refl)
-error_stops Turns h other = tt
-error_stops Write h other = absurd h
-error_stops NoProfile h other = absurd h
-error_stops Items h other = absurd h
+-- ---- not compared
+
+pub jobs_stopped : {T : Type 0} (r : Result T Stop) (old new old_word new_word : List ℕ) (old_now new_now : SourceState)
+    (ended between ended' : List JobRead) → old_word ≡ old → new_word ≡ new → between ≡ ended ++ job_read old_word old_now ∷ [] →
+    ended' ≡ between ++ job_read new_word new_now ∷ [] →
+    IfErr r (λ stop. StopsReading old_now new_now stop.which stop.error) →
+    IfErr r (λ stop. StopsJobs old new stop.which stop.error ended ended')
+jobs_stopped (Ok outcome) old new old_word new_word old_now new_now ended between ended' old_is new_is first second reads = tt
+jobs_stopped (Err stop) old new old_word new_word old_now new_now ended between ended' old_is new_is first second reads = record {
+  earlier = [];
+  old_read = old_now;
+  new_read = new_now;
+  reads = reads;
+  ended_is = both_ended old new old_word new_word old_now new_now ended between ended' old_is new_is first second;
+}
+
+pub ended_more : (ended now next earlier last : List JobRead) → now ≡ ended ++ earlier → next ≡ now ++ last →
+    next ≡ ended ++ (earlier ++ last)
+ended_more ended now next earlier last so_far more =
+    more ∙ (ap (λ front. front ++ last) so_far ∙ append_assoc ended earlier last)
+
+-- on a later printer
+pub stopped_later : {old new : List ℕ} {which : Which} {error : Error} {ended now ended' : List JobRead} (earlier : List JobRead) →
+    now ≡ ended ++ earlier → StopsJobs old new which error now ended' → StopsJobs old new which error ended ended'
+stopped_later {old} {new} {which} {error} {ended} {now} {ended'} earlier so_far stops =
+    let last : List JobRead = job_read old stops.old_read ∷ job_read new stops.new_read ∷ [] in
+    record {
+      earlier = earlier ++ stops.earlier;
+      old_read = stops.old_read;
+      new_read = stops.new_read;
+      reads = stops.reads;
+      ended_is =
+          ended_more ended now ended' earlier (stops.earlier ++ last) so_far stops.ended_is
+          ∙ ap (λ l. ended ++ l) (sym (append_assoc earlier stops.earlier last));
+    }
+
+-- without memory no read failed
+pub memory_is_no_read : (one other : Which) → is_unread_by one other Memory ≡ false
+memory_is_no_read Old Old = refl
+memory_is_no_read Old New = refl
+memory_is_no_read New Old = refl
+memory_is_no_read New New = refl
+
+-- an error that is neither a failed read nor one of memory stops the work, and nothing is told
+pub error_stops : (name : List ℕ) (error : Error) (err : OutletState) → IsErrorOfJob error → (error ≡ Read → ⊥) → (error ≡ Memory → ⊥) →
+    StopsAt name error (Stopped error) err err
+error_stops name Memory err h unread full = absurd (full refl)
+error_stops name Read err h unread full = absurd (unread refl)
+error_stops name Turns err h unread full = (refl, refl)
+error_stops name Write err h unread full = absurd h
+error_stops name NoProfile err h unread full = absurd h
+error_stops name Items err h unread full = absurd h
 
 -- ---- on one printer after another
 

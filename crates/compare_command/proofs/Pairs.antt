@@ -12,13 +12,12 @@ use Rattle.requests.specs.declared.status.Status.{Status}
 use Rattle.requests.specs.declared.status.Status.TheVariants.{Stopped}
 use Rattle.many_jobs.specs.JobChecks.{Work}
 use Rattle.comparison.specs.declared.compare.Which.{Which}
-use Rattle.comparison.specs.Running.{IsErrorOfJob}
 use Rattle.compare_command.specs.declared.asked.JobPair.{JobPair}
 use Rattle.compare_command.specs.declared.found.Found.{Found}
 use Rattle.compare_command.specs.declared.golden.Ending.{Ending}
 use Rattle.compare_command.specs.declared.golden.Ending.TheVariants.{HasNoVerdict}
 use Rattle.compare_command.specs.declared.golden.PairTold.{PairTold}
-use Rattle.compare_command.specs.Compare.{Asked, FindsFor, telling_of}
+use Rattle.compare_command.specs.Compare.{Asked, FindsFor, StopsJobs, telling_of}
 use Rattle.compare_command.specs.Golden.{Golden, IsCut, IsTold, LeavesPairs, TellsPair, asked_by, ending_of, names_of}
 use Rattle.compare_command.specs.Golden.{status_at, stop_text, worse}
 use Rattle.compare_command.specs.Outcomes.{same_counts}
@@ -43,20 +42,20 @@ of_found (Err e) asked fleet names given start ended ended' found names_are find
 
 pub of_stop : {E : Type 0} (r : Result PairTold E) (asked : Asked) (fleet : List Printer) (names given : List (List ℕ))
     (start : List ℕ → SourceState) (ended ended' : List JobRead) (which : Which) (error : Error) → given ≡ names →
-    IsErrorOfJob error →
+    StopsJobs asked.old_name asked.new_name which error ended ended' →
     IfOk r (λ told. (cause : Option (List ℕ)) × (told.text.items ≡ stop_text asked given which error cause)) →
     IfOk r (λ told. told.ending ≡ HasNoVerdict) →
     IfOk r (λ told. TellsPair asked fleet names start ended ended' told.text.items told.ending)
-of_stop (Ok told) asked fleet names given start ended ended' which error names_are is_error text_is counts =
+of_stop (Ok told) asked fleet names given start ended ended' which error names_are stops text_is counts =
     inr (record {
       which = which;
       error = error;
       cause = text_is.0;
-      is_error = is_error;
+      stops = stops;
       text_is = text_is.1 ∙ ap (λ (n : List (List ℕ)). stop_text asked n which error text_is.0) names_are;
       counts = counts;
     })
-of_stop (Err e) asked fleet names given start ended ended' which error names_are is_error text_is counts = tt
+of_stop (Err e) asked fleet names given start ended ended' which error names_are stops text_is counts = tt
 
 -- ---- written
 

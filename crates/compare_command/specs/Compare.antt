@@ -1,9 +1,10 @@
 -- What the command `compare` leaves of two jobs.
 use Rattle.std.specs.Prelude.{◌≡◌, ◌⊎◌, ◌==◌, ◌+◌, ℕ, Bool, false, true, List, [], ◌∷◌, ◌++◌, codes, map}
-use Rattle.std.specs.Prelude.{IsFalse, IsTrue, None, Some, Option, if◌then◌else◌, ⊤}
+use Rattle.std.specs.Prelude.{IsFalse, IsTrue, None, Some, Option, if◌then◌else◌}
 use Rattle.device_profile.specs.Name.{printer_name}
 use Rattle.device_profile.specs.Printer.{Printer}
-use Rattle.streams.specs.declared.error.Error.TheVariants.{Memory, Write, Turns}
+use Rattle.streams.specs.declared.error.Error.{Error}
+use Rattle.streams.specs.declared.error.Error.TheVariants.{Memory, Read, Write, Turns, NoProfile, Items}
 use Rattle.streams.specs.Ended.{JobRead, job_read}
 use Rattle.streams.specs.Outlet.{OutletState, Adds, AddsFront}
 use Rattle.streams.specs.Pieces.{ByReads}
@@ -22,7 +23,11 @@ use Rattle.many_jobs.specs.declared.telling.Format.{Format}
 use Rattle.many_jobs.specs.declared.telling.Format.TheVariants as formats
 use Rattle.sinks.specs.declared.counts.Counts.{Counts}
 use Rattle.sinks.specs.Counts.{no_counts}
+use Rattle.comparison.specs.declared.compare.Which.{Which}
+use Rattle.comparison.specs.declared.compare.Which.TheVariants.{Old, New}
 use Rattle.comparison.specs.declared.difference.Comparison.TheVariants.{Same}
+use Rattle.comparison.specs.Comparing.{is_unread_by}
+use Rattle.comparison.specs.Running.{IsErrorOfJob}
 use Rattle.compare_command.specs.declared.asked.CompareAsked.{CompareAsked}
 use Rattle.compare_command.specs.declared.found.Found.{Found}
 use Rattle.compare_command.specs.declared.found.Manner.{Manner}
@@ -54,6 +59,11 @@ asked_for asked = record {
   extent = asked.extent;
   is_named = asked.is_named;
 }
+
+-- the name of this one of two jobs
+abbrev pub name_by : Asked → Which → List ℕ
+name_by asked Old = asked.old_name
+name_by asked New = asked.new_name
 
 abbrev pub is_all : Extent → Bool
 is_all First = false
@@ -128,18 +138,37 @@ format_of Words = formats.Words
 format_of Json = formats.Line
 format_of Html = formats.Line
 
--- the work stopped before the end of a job
-abbrev pub IsStop : Status → Type 0
-IsStop (Stopped Memory) = ⊤
-IsStop (Stopped Turns) = ⊤
-IsStop _ = ⊥
+-- Two jobs were read so far, and for this error this one was not read further: where a read failed, a read of this one
+-- and none of the other.
+pub record StopsReading (old_read new_read : SourceState) (which : Which) (error : Error) : Type 0 where
+  pub is_error : IsErrorOfJob error
+  pub of_old : old_read.failed ≡ is_unread_by Old which error
+  pub of_new : new_read.failed ≡ is_unread_by New which error
+
+-- so two jobs of these names, which were ended last, behind those of earlier printers
+pub record StopsJobs (old new : List ℕ) (which : Which) (error : Error) (ended ended' : List JobRead) : Type 0 where
+  pub earlier : List JobRead
+  pub old_read : SourceState
+  pub new_read : SourceState
+  pub reads : StopsReading old_read new_read which error
+  pub ended_is : ended' ≡ ended ++ (earlier ++ (job_read old old_read ∷ job_read new new_read ∷ []))
 
 -- why the job of this name was not compared: standard error is told that it cannot be read, or that a page of it cannot
 -- be held, or nothing
-abbrev pub StopsAt : List ℕ → Status → OutletState → OutletState → Type 0
-StopsAt name status err err' =
-    TellsUnread (codes "ERROR read job ") name status err err'
-    ⊎ (TellsUnread (codes "ERROR memory job ") name status err err' ⊎ (IsStop status × (err' ≡ err)))
+abbrev pub StopsAt : List ℕ → Error → Status → OutletState → OutletState → Type 0
+StopsAt name Read status err err' = TellsUnread (codes "ERROR read job ") name status err err'
+StopsAt name Memory status err err' =
+    TellsUnread (codes "ERROR memory job ") name status err err' ⊎ ((status ≡ Stopped Memory) × (err' ≡ err))
+StopsAt name Turns status err err' = (status ≡ Stopped Turns) × (err' ≡ err)
+StopsAt name Write status err err' = ⊥
+StopsAt name NoProfile status err err' = ⊥
+StopsAt name Items status err err' = ⊥
+
+-- one of the jobs is not compared, and of that one it is told
+abbrev pub LeavesStop : Asked → Status → List JobRead → List JobRead → OutletState → OutletState → Type 0
+LeavesStop asked status ended ended' err err' =
+    (which : Which) × (error : Error) × StopsJobs asked.old_name asked.new_name which error ended ended'
+    × StopsAt (name_by asked which) error status err err'
 
 -- these are the printers of texts, of those that are known and of those that were read between given and given', with
 -- the names that these texts give them
@@ -159,7 +188,7 @@ LeavesFound asked fleet names start status ended ended' out out' err err' =
     × WritesFound (found_text (telling_of asked names) found.number found.outcome)
     (status_by (same_counts found.outcome)) status out out'
     × (err' ≡ err))
-    ⊎ ((StopsAt asked.old_name status err err' ⊎ StopsAt asked.new_name status err err') × (out' ≡ out))
+    ⊎ (LeavesStop asked status ended ended' err err' × (out' ≡ out))
 
 -- There are no printers of these words: of one that is refused, or cannot be read, standard error is told; or memory
 -- ran out.

@@ -9,7 +9,7 @@ use Rattle.streams.specs.Ended.{JobRead}
 use Rattle.streams.specs.Outlet.{OutletState, Adds, AddsFront}
 use Rattle.streams.specs.Source.{SourceState}
 use Rattle.streams.specs.declared.error.Error.TheVariants.{Memory, Write}
-use Rattle.compare_command.specs.Compare.{AreCompared, AreOfTexts, Asked, RefusesPrinter, StopsAt, WritesFound}
+use Rattle.compare_command.specs.Compare.{AreCompared, AreOfTexts, Asked, LeavesStop, RefusesPrinter, WritesFound}
 use Rattle.compare_command.specs.Compare.{telling_of}
 use Rattle.compare_command.specs.Outcomes.{near_by, same_counts, status_by}
 use Rattle.compare_command.specs.Pictures.{drawn_manner, picture_by}
@@ -84,7 +84,7 @@ LeavesDrawnFor asked fleet names start drawn ended ended' file file' out out' er
     ((found : Found) × FindsDrawn asked fleet start found ended ended'
     × DrawsFound asked fleet names found drawn file file' out out'
     × (err' ≡ err))
-    ⊎ ((StopsAt asked.old_name drawn.status err err' ⊎ StopsAt asked.new_name drawn.status err err')
+    ⊎ (LeavesStop asked drawn.status ended ended' err err'
     × (drawn.is_drawn ≡ false) × (file' ≡ file) × (out' ≡ out))
 
 -- The jobs are compared on the printers of these texts; or there are no printers, no job is read and nothing is

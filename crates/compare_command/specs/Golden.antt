@@ -15,14 +15,13 @@ use Rattle.requests.specs.declared.status.Trouble.TheVariants.{NoVerdict}
 use Rattle.many_jobs.specs.JobChecks.{Work}
 use Rattle.sinks.specs.declared.counts.Counts.{Counts}
 use Rattle.comparison.specs.declared.compare.Which.{Which}
-use Rattle.comparison.specs.declared.compare.Which.TheVariants.{Old, New}
-use Rattle.comparison.specs.Running.{IsErrorOfJob}
 use Rattle.compare_command.specs.declared.asked.GoldenAsked.{GoldenAsked}
 use Rattle.compare_command.specs.declared.asked.JobPair.{JobPair}
 use Rattle.compare_command.specs.declared.found.Found.{Found}
 use Rattle.compare_command.specs.declared.golden.Ending.{Ending}
 use Rattle.compare_command.specs.declared.golden.Ending.TheVariants.{Agrees, Differs, HasNoVerdict}
-use Rattle.compare_command.specs.Compare.{AreOfTexts, Asked, FindsFor, RefusesPrinter, telling_of}
+use Rattle.compare_command.specs.Compare.{AreOfTexts, Asked, FindsFor, RefusesPrinter, StopsJobs, name_by}
+use Rattle.compare_command.specs.Compare.{telling_of}
 use Rattle.compare_command.specs.Outcomes.{same_counts}
 use Rattle.compare_command.specs.Telling.{failure_text, found_text, unread}
 
@@ -91,11 +90,6 @@ status_at HasNoVerdict = Told NoVerdict
 
 -- ---- what is told of a pair
 
--- the name of this one of two jobs
-abbrev pub name_by : Asked → Which → List ℕ
-name_by asked Old = asked.old_name
-name_by asked New = asked.new_name
-
 -- one of the jobs has no verdict, and this is known of why
 abbrev pub stop_text : Asked → List (List ℕ) → Which → Error → Option (List ℕ) → List ℕ
 stop_text asked names which error cause = failure_text asked.form (unread names (name_by asked which) error cause)
@@ -109,18 +103,19 @@ pub record TellsFound (asked : Asked) (fleet : List Printer) (names : List (List
   pub counts : ending ≡ ending_of (same_counts found.outcome)
 
 -- the text of why a pair has no verdict, which counts so
-pub record TellsStop (asked : Asked) (names : List (List ℕ)) (text : List ℕ) (ending : Ending) : Type 0 where
+pub record TellsStop (asked : Asked) (names : List (List ℕ)) (ended ended' : List JobRead) (text : List ℕ)
+    (ending : Ending) : Type 0 where
   pub which : Which
   pub error : Error
   pub cause : Option (List ℕ)
-  pub is_error : IsErrorOfJob error
+  pub stops : StopsJobs asked.old_name asked.new_name which error ended ended'
   pub text_is : text ≡ stop_text asked names which error cause
   pub counts : ending ≡ HasNoVerdict
 
 abbrev pub TellsPair : Asked → List Printer → List (List ℕ) → (List ℕ → SourceState) → List JobRead → List JobRead →
     List ℕ → Ending → Type 0
 TellsPair asked fleet names start ended ended' text ending =
-    TellsFound asked fleet names start ended ended' text ending ⊎ TellsStop asked names text ending
+    TellsFound asked fleet names start ended ended' text ending ⊎ TellsStop asked names ended ended' text ending
 
 -- the text of a pair was written, which counts so
 pub record IsTold (asked : Asked) (fleet : List Printer) (names : List (List ℕ)) (start : List ℕ → SourceState)

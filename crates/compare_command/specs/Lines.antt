@@ -7,7 +7,8 @@ use Rattle.shown_bytes.specs.Shown.{shown}
 use Rattle.sinks.specs.declared.counts.Counts.{Counts}
 use Rattle.page_comparison.specs.declared.differences.PageChange.{PageChange}
 use Rattle.page_comparison.specs.declared.differences.PageChange.TheVariants.{Moved, Changed, OnlyInOld, OnlyInNew}
-use Rattle.page_comparison.specs.declared.differences.PageChange.TheVariants.{PageEnds, Covers}
+use Rattle.page_comparison.specs.declared.differences.PageChange.TheVariants.{PageEnds, PageOnlyInOld}
+use Rattle.page_comparison.specs.declared.differences.PageChange.TheVariants.{PageOnlyInNew, Covers}
 use Rattle.page_comparison.specs.declared.differences.PageDifference.{PageDifference}
 
 -- what differs
@@ -17,15 +18,19 @@ change_words Changed = codes "changed"
 change_words OnlyInOld = codes "only in OLD"
 change_words OnlyInNew = codes "only in NEW"
 change_words PageEnds = codes "page ends otherwise"
+change_words PageOnlyInOld = codes "only in OLD"
+change_words PageOnlyInNew = codes "only in NEW"
 change_words Covers = codes "covered otherwise"
 
--- the number of the mark: of one that NEW alone has, that of NEW
+-- the number of the mark: of one that NEW alone has, also on a page that it alone has, that of NEW
 abbrev pub mark_by : PageChange → (old new : ℕ) → ℕ
 mark_by OnlyInNew old new = new
 mark_by Moved old new = old
 mark_by Changed old new = old
 mark_by OnlyInOld old new = old
 mark_by PageEnds old new = old
+mark_by PageOnlyInOld old new = old
+mark_by PageOnlyInNew old new = new
 mark_by Covers old new = old
 
 -- the number of the mark that is told

@@ -6,7 +6,8 @@ use Rattle.shown_bytes.specs.Shown.{shown_text}
 use Rattle.sinks.specs.declared.counts.Counts.{Counts}
 use Rattle.page_comparison.specs.declared.differences.PageChange.{PageChange}
 use Rattle.page_comparison.specs.declared.differences.PageChange.TheVariants.{Moved, Changed, OnlyInOld, OnlyInNew}
-use Rattle.page_comparison.specs.declared.differences.PageChange.TheVariants.{PageEnds, Covers}
+use Rattle.page_comparison.specs.declared.differences.PageChange.TheVariants.{PageEnds, PageOnlyInOld}
+use Rattle.page_comparison.specs.declared.differences.PageChange.TheVariants.{PageOnlyInNew, Covers}
 use Rattle.page_comparison.specs.declared.differences.PageDifference.{PageDifference}
 use Rattle.compare_command.specs.Lines.{counts_words, mark_of}
 
@@ -25,6 +26,8 @@ change_phrase Changed = codes "the mark is another one"
 change_phrase OnlyInOld = codes "the mark is missing"
 change_phrase OnlyInNew = codes "the mark is new"
 change_phrase PageEnds = codes "the page ends otherwise"
+change_phrase PageOnlyInOld = codes "the page is missing"
+change_phrase PageOnlyInNew = codes "the page is new"
 change_phrase Covers = codes "the mark is covered otherwise"
 
 unfoldable pub spot_phrase : PageDifference → List ℕ

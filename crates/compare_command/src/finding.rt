@@ -1,8 +1,8 @@
 //! What comes of two jobs on one printer after another.
 
 ghost use Rattle.std.specs.Prelude.{◌≡◌, IfErr, IfOk, IsFalse};
-ghost use Rattle.comparison.specs.Running.{IsErrorOfJob};
-ghost use Rattle.compare_command.specs.Compare.{AreCompared, IsCompared, first_counts};
+ghost use Rattle.compare_command.specs.Compare.{AreCompared, IsCompared, StopsJobs, StopsReading};
+ghost use Rattle.compare_command.specs.Compare.{first_counts};
 ghost use Rattle.compare_command.specs.Outcomes.{IsOutcome};
 ghost use Rattle.compare_command.specs.declared.found.Manner.TheVariants.{ByEvents, ByPages};
 ghost use Rattle.sinks.specs.Counts.{no_counts};
@@ -32,7 +32,9 @@ pub(crate) fn find<'n, J: Jobs<'n>>(
         asked.now.old_name.now asked.now.new_name.now 1 fleet.now no_counts found
         (J.ended jobs.old) (J.ended jobs.new)) }
     ensures start { J.start jobs.new ≡ J.start jobs.old }
-    ensures stopped { IfErr result (λ stop. IsErrorOfJob stop.error) }
+    ensures stopped { IfErr result (λ stop. StopsJobs
+        asked.now.old_name.now asked.now.new_name.now stop.which stop.error
+        (J.ended jobs.old) (J.ended jobs.new)) }
 {
     let mut counts = Counts::none();
     for (index, profile) in fleet.iter().enumerate() {
@@ -70,7 +72,9 @@ fn compare_on<'n, J: Jobs<'n>>(
         asked.now.old_name.now asked.now.new_name.now number profile.now outcome
         (J.ended jobs.old) (J.ended jobs.new)) }
     ensures start { J.start jobs.new ≡ J.start jobs.old }
-    ensures stopped { IfErr result (λ stop. IsErrorOfJob stop.error) }
+    ensures stopped { IfErr result (λ stop. StopsJobs
+        asked.now.old_name.now asked.now.new_name.now stop.which stop.error
+        (J.ended jobs.old) (J.ended jobs.new)) }
 {
     let old_name = asked.old_name.as_bytes();
     let new_name = asked.new_name.as_bytes();
@@ -97,7 +101,8 @@ fn compare_two<S: Source>(
         ByReads (S.state old_job.old) (S.state old_job.new) (λ one.
         ByReads (S.state new_job.old) (S.state new_job.new) (λ other.
         IsOutcome manner number profile.now one other outcome))) }
-    ensures stopped { IfErr result (λ stop. IsErrorOfJob stop.error) }
+    ensures stopped { IfErr result (λ stop. StopsReading
+        (S.state old_job.new) (S.state new_job.new) stop.which stop.error) }
 {
     match manner {
         Manner::ByEvents => compare_events(alloc, old_job, new_job, profile, number),
@@ -121,7 +126,8 @@ fn compare_events<S: Source>(
         ByReads (S.state old_job.old) (S.state old_job.new) (λ one.
         ByReads (S.state new_job.old) (S.state new_job.new) (λ other.
         IsOutcome ByEvents number profile.now one other outcome))) }
-    ensures stopped { IfErr result (λ stop. IsErrorOfJob stop.error) }
+    ensures stopped { IfErr result (λ stop. StopsReading
+        (S.state old_job.new) (S.state new_job.new) stop.which stop.error) }
 {
     match compare_jobs(alloc, old_job, new_job, profile, number) {
         Ok(comparison) => Ok(Outcome::OfEvents(comparison)),
@@ -145,7 +151,8 @@ fn compare_all<S: Source>(
         ByReads (S.state old_job.old) (S.state old_job.new) (λ one.
         ByReads (S.state new_job.old) (S.state new_job.new) (λ other.
         IsOutcome (ByPages nearness most) number profile.now one other outcome))) }
-    ensures stopped { IfErr result (λ stop. IsErrorOfJob stop.error) }
+    ensures stopped { IfErr result (λ stop. StopsReading
+        (S.state old_job.new) (S.state new_job.new) stop.which stop.error) }
 {
     match compare_pages(alloc, old_job, new_job, profile, number, nearness, most) {
         Ok(comparison) => Ok(Outcome::OfPages(comparison)),

@@ -32,6 +32,8 @@ pub(crate) fn change_words(change: PageChange) -> &'static [u8]
         PageChange::OnlyInOld => b"only in OLD",
         PageChange::OnlyInNew => b"only in NEW",
         PageChange::PageEnds => b"page ends otherwise",
+        PageChange::PageOnlyInOld => b"only in OLD",
+        PageChange::PageOnlyInNew => b"only in NEW",
         PageChange::Covers => b"covered otherwise",
     }
 }
@@ -46,6 +48,8 @@ pub(crate) fn mark_of(difference: PageDifference) -> u64
         PageChange::Changed => difference.old_mark,
         PageChange::OnlyInOld => difference.old_mark,
         PageChange::PageEnds => difference.old_mark,
+        PageChange::PageOnlyInOld => difference.old_mark,
+        PageChange::PageOnlyInNew => difference.new_mark,
         PageChange::Covers => difference.old_mark,
     }
 }

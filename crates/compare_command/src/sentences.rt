@@ -166,6 +166,8 @@ fn change_phrase(change: PageChange) -> &'static [u8]
         PageChange::OnlyInOld => b"the mark is missing",
         PageChange::OnlyInNew => b"the mark is new",
         PageChange::PageEnds => b"the page ends otherwise",
+        PageChange::PageOnlyInOld => b"the page is missing",
+        PageChange::PageOnlyInNew => b"the page is new",
         PageChange::Covers => b"the mark is covered otherwise",
     }
 }

@@ -1,11 +1,12 @@
 //! Why two jobs are not compared.
 
-ghost use Rattle.std.specs.Prelude.{◌≡◌, ◌⊎◌, IsFalse};
+ghost use Rattle.std.specs.Prelude.{◌≡◌, IsFalse};
+ghost use Rattle.comparison.specs.Comparing.{is_unread_by};
 ghost use Rattle.comparison.specs.Running.{IsErrorOfJob};
-ghost use Rattle.compare_command.specs.Compare.{StopsAt, asked_for};
-ghost use Rattle.compare_command.specs.Golden.{name_by};
+ghost use Rattle.compare_command.specs.Compare.{StopsAt, StopsReading, asked_for, name_by};
 ghost use Rattle.job_reports.specs.Refusals.{TellsUnread};
-ghost use Rattle.page_comparison.specs.Reading.{IsErrorOfPages};
+ghost use Rattle.page_comparison.specs.Reading.{IsErrorOfPages, is_unread_error};
+ghost use Rattle.streams.specs.Source.{SourceState};
 
 use crate::asked::CompareAsked;
 use comparison::{Unread, Which};
@@ -34,7 +35,10 @@ pub(crate) fn stop_of_reading<S: Source>(
     unread: Unread,
 ) -> Stop
     requires { IsErrorOfJob unread.error }
-    ensures { IsErrorOfJob result.error }
+    ensures { (old_read new_read : SourceState) →
+        old_read.failed ≡ is_unread_by Which.Old unread.which unread.error →
+        new_read.failed ≡ is_unread_by Which.New unread.which unread.error →
+        StopsReading old_read new_read result.which result.error }
 {
     Stop {
         which: unread.which,
@@ -60,7 +64,10 @@ pub(crate) fn stop_of_pages<S: Source>(
     error: PagesError,
 ) -> Stop
     requires { IsErrorOfPages error }
-    ensures { IsErrorOfJob result.error }
+    ensures { (old_read new_read : SourceState) →
+        old_read.failed ≡ is_unread_error Which.Old error →
+        new_read.failed ≡ is_unread_error Which.New error →
+        StopsReading old_read new_read result.which result.error }
 {
     match error {
         PagesError::Unread(unread) => stop_of_reading(alloc, old_job, new_job, unread),
@@ -102,14 +109,12 @@ pub(crate) fn tell_stop<E: Outlet>(
 ) -> Status
     requires error { IsErrorOfJob stop.now.error }
     requires stderr { IsFalse (E.state stderr.old).failed }
-    ensures { StopsAt asked.now.old_name.now result (E.state stderr.old) (E.state stderr.new)
-        ⊎ StopsAt asked.now.new_name.now result (E.state stderr.old) (E.state stderr.new) }
+    ensures { StopsAt (name_by (asked_for asked.now) stop.now.which) stop.now.error result
+        (E.state stderr.old) (E.state stderr.new) }
 {
+    let name = name_by(asked, stop.which);
     let cause = stop.cause.as_ref().map(|words| words.as_bytes());
-    match stop.which {
-        Which::Old => tell_stop_of(alloc, asked.old_name, stop.error, cause, stderr),
-        Which::New => tell_stop_of(alloc, asked.new_name, stop.error, cause, stderr),
-    }
+    tell_stop_of(alloc, name, stop.error, cause, stderr)
 }
 
 /// Tells standard error why the job of this name is not compared, where that is known.
@@ -122,7 +127,7 @@ fn tell_stop_of<E: Outlet>(
 ) -> Status
     requires error { IsErrorOfJob error }
     requires stderr { IsFalse (E.state stderr.old).failed }
-    ensures { StopsAt name.now result (E.state stderr.old) (E.state stderr.new) }
+    ensures { StopsAt name.now error result (E.state stderr.old) (E.state stderr.new) }
 {
     match error {
         Error::Read => tell_cause(alloc, b"ERROR read job ", name, cause, stderr),
@@ -139,7 +144,7 @@ fn tell_of_memory<E: Outlet>(
     stderr: &mut E,
 ) -> Status
     requires { IsFalse (E.state stderr.old).failed }
-    ensures { StopsAt name.now result (E.state stderr.old) (E.state stderr.new) }
+    ensures { StopsAt name.now Error.Memory result (E.state stderr.old) (E.state stderr.new) }
 {
     match cause {
         Some(_) => tell_cause(alloc, b"ERROR memory job ", name, cause, stderr),

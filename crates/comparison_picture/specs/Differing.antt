@@ -15,6 +15,8 @@ has_old_mark changes.Changed = true
 has_old_mark changes.OnlyInOld = true
 has_old_mark changes.OnlyInNew = false
 has_old_mark changes.PageEnds = false
+has_old_mark changes.PageOnlyInOld = false
+has_old_mark changes.PageOnlyInNew = false
 has_old_mark changes.Covers = true
 
 -- whether one of NEW does
@@ -24,6 +26,8 @@ has_new_mark changes.Changed = true
 has_new_mark changes.OnlyInOld = false
 has_new_mark changes.OnlyInNew = true
 has_new_mark changes.PageEnds = false
+has_new_mark changes.PageOnlyInOld = false
+has_new_mark changes.PageOnlyInNew = false
 has_new_mark changes.Covers = true
 
 -- the index of the mark of a job of which a difference tells; where it tells of none, one that no mark has

@@ -1,5 +1,5 @@
 -- Pages on which two jobs differ, as they are drawn.
-use Rattle.std.specs.Prelude.{ℕ, List, Option, None, Some, map}
+use Rattle.std.specs.Prelude.{ℕ, ℤ, int_le, List, Option, None, Some, map, if◌then◌else◌}
 use Rattle.device_profile.specs.declared.geometry.Geometry.{Geometry}
 use Rattle.device_profile.specs.Printer.{geometry_at}
 use Rattle.page_env.specs.declared.mark.PageEnd.{PageEnd}
@@ -27,8 +27,21 @@ compared_page page = record {
 abbrev pub compared_pages : {A : Type 0} → List (DrawnPage A) → List ComparedPage
 compared_pages pages = map compared_page pages
 
--- the paper of a page by the values with which it ends: by those of OLD, where OLD has the page
+abbrev pub longer : ℤ → ℤ → ℤ
+longer one other = if int_le one other then other else one
+
+-- a paper, as wide and as high as holds another one too
+abbrev pub holding : Geometry → Geometry → Geometry
+holding paper other = record paper {
+  page_width = longer paper.page_width other.page_width;
+  page_height = longer paper.page_height other.page_height;
+}
+
+-- the paper of a page by the values with which it ends: of a page that both have OLD's, which holds NEW's too
 abbrev pub paper_at : List Geometry → (old_end new_end : Option PageEnd) → Geometry
-paper_at geometries (Some end) new_end = geometry_at geometries end.size end.orientation
+paper_at geometries (Some old_end) (Some new_end) =
+    holding (geometry_at geometries old_end.size old_end.orientation)
+    (geometry_at geometries new_end.size new_end.orientation)
+paper_at geometries (Some end) None = geometry_at geometries end.size end.orientation
 paper_at geometries None (Some end) = geometry_at geometries end.size end.orientation
 paper_at geometries None None = geometry_at geometries 0 0

@@ -108,6 +108,8 @@ fn has_old_mark(change: PageChange) -> bool
         PageChange::OnlyInOld => true,
         PageChange::OnlyInNew => false,
         PageChange::PageEnds => false,
+        PageChange::PageOnlyInOld => false,
+        PageChange::PageOnlyInNew => false,
         PageChange::Covers => true,
     }
 }
@@ -123,6 +125,8 @@ fn has_new_mark(change: PageChange) -> bool
         PageChange::OnlyInOld => false,
         PageChange::OnlyInNew => true,
         PageChange::PageEnds => false,
+        PageChange::PageOnlyInOld => false,
+        PageChange::PageOnlyInNew => false,
         PageChange::Covers => true,
     }
 }

@@ -26,8 +26,9 @@ use Rattle.page_comparison.specs.declared.standing.Standing.{Standing}
 use Rattle.page_comparison.specs.declared.turn.Turn.{Turn}
 use Rattle.page_comparison.specs.AnyOrder.{Matching, all_in_any_order, first_free, free_told, in_any_order, mark_told, matched_with}
 use Rattle.page_comparison.specs.AnyOrder.{stand_at}
-use Rattle.page_comparison.specs.InOrder.{all_in_order, in_order, is_resumed, leaving, leavings, nearest, splits, turn_told}
-use Rattle.page_comparison.specs.Marks.{edges_of, is_near_mark}
+use Rattle.page_comparison.specs.InOrder.{all_in_order, in_order, is_resumed, leaving, leavings, nearest, runs, splits}
+use Rattle.page_comparison.specs.InOrder.{turn_told, ways}
+use Rattle.page_comparison.specs.Marks.{changed, footprint_of, is_near_mark}
 use Rattle.page_comparison.specs.Pages.{MadeMark, shapes_of}
 use Rattle.page_comparison.specs.Told.{behind, difference_at, first_standing, left_out, next_place}
 use Rattle.page_comparison.proofs.Free.{AreBefore, before_more, none_crossed}
@@ -179,6 +180,20 @@ leavings_leave together (suc times) some =
     all_behind IsLeaving (splits 0 together) (leavings (together + 1) times) (splits_leave 0 together here)
     (leavings_leave (together + 1) times more)
 
+runs_leave : (many times : ℕ) → 0 < many → AllByRecursion IsLeaving (runs many times)
+unfolding runs
+runs_leave many zero some = tt
+runs_leave many (suc times) some =
+    let of_new : 0 < 0 + many = omega (arith, some) in
+    let of_old : 0 < many + 0 = omega (arith, some) in
+    let more : 0 < many + 1 = omega arith in
+    (record { differs = refl; some = of_new }, record { differs = refl; some = of_old }, runs_leave (many + 1) times more)
+
+ways_leave : AllByRecursion IsLeaving ways
+unfolding ways
+ways_leave =
+    all_behind IsLeaving (leavings 1 64) (runs 65 4032) (leavings_leave 1 64 (omega arith)) (runs_leave 65 4032 (omega arith))
+
 found_in : {X : Type 0} (P : X → Type 0) (p : X → Bool) (xs : List X) (otherwise : X) → AllByRecursion P xs → P otherwise →
     P (unwrap_or (find p xs) otherwise)
 found_in P p [] otherwise h k = k
@@ -191,15 +206,22 @@ found_in P p (x ∷ xs) otherwise h k = by_test (p x) (found_in P p xs otherwise
 nearest_leaves : (within : ℕ) (old new : List MadeMark) → IsLeaving (nearest within old new)
 unfolding nearest
 nearest_leaves within old new =
-    found_in IsLeaving (is_resumed within old new) (leavings 1 64) (leaving 1 1) (leavings_leave 1 64 (omega arith))
+    found_in IsLeaving (is_resumed within old new) ways (leaving 1 1) ways_leave
     (record { differs = refl; some = omega arith })
 
-left_some : (old_place new_place : ℕ) (at : Standing) (i j : ℕ) (a b : MadeMark) (old new : List MadeMark)
-    (rest : List PageDifference) → 0 < i + j → left_out old_place new_place at (take i (a ∷ old)) (take j (b ∷ new)) ++ rest ≡ [] → ⊥
-left_some old_place new_place at zero zero a b old new rest some e = absurd (omega (arith, some))
-left_some old_place new_place at zero (suc j) a b old new rest some e = cc
-left_some old_place new_place at (suc i) zero a b old new rest some e = cc
-left_some old_place new_place at (suc i) (suc j) a b old new rest some e = cc
+-- where the first two marks are not near
+left_some : (within old_place new_place : ℕ) (at : Standing) (i j : ℕ) (a b : MadeMark) (old new : List MadeMark)
+    (rest : List PageDifference) → is_near_mark within a b ≡ false → 0 < i + j →
+    left_out within old_place new_place at (take i (a ∷ old)) (take j (b ∷ new)) ++ rest ≡ [] → ⊥
+left_some within old_place new_place at zero zero a b old new rest other some e = absurd (omega (arith, some))
+left_some within old_place new_place at zero (suc j) a b old new rest other some e = cc
+left_some within old_place new_place at (suc i) zero a b old new rest other some e = cc
+left_some within old_place new_place at (suc i) (suc j) a b old new rest other some e =
+    let told : PageDifference = difference_at at a.place b.place (changed a b) in
+    let left : List PageDifference = left_out within old_place new_place (behind 1 1 at) (take i old) (take j new) in
+    let none : told ∷ (left ++ rest) ≡ [] =
+    sym (ap (λ (t : Bool). ((if t then [] else told ∷ []) ++ left) ++ rest) other) ∙ e in
+    cc
 
 -- ---- in their order
 
@@ -210,15 +232,15 @@ module _ (setting : Setting) where
       ++ in_order setting turns (behind turn.old turn.new at) (drop turn.old old) (drop turn.new new)
 
   never_left : (turns : ℕ) (at : Standing) (a b : MadeMark) (old new : List MadeMark) (turn : Turn) → IsLeaving turn →
-      turned turns at (a ∷ old) (b ∷ new) turn ≡ [] → ⊥
-  never_left turns at a b old new turn leaves e =
+      is_near_mark setting.within a b ≡ false → turned turns at (a ∷ old) (b ∷ new) turn ≡ [] → ⊥
+  never_left turns at a b old new turn leaves other e =
       let rest : List PageDifference =
       in_order setting turns (behind turn.old turn.new at) (drop turn.old (a ∷ old)) (drop turn.new (b ∷ new)) in
       let left : List PageDifference =
-      left_out (next_place setting.old_end (drop turn.old (a ∷ old))) (next_place setting.new_end (drop turn.new (b ∷ new))) at
-      (take turn.old (a ∷ old)) (take turn.new (b ∷ new)) in
-      left_some (next_place setting.old_end (drop turn.old (a ∷ old))) (next_place setting.new_end (drop turn.new (b ∷ new))) at
-      turn.old turn.new a b old new rest leaves.some
+      left_out setting.within (next_place setting.old_end (drop turn.old (a ∷ old)))
+      (next_place setting.new_end (drop turn.new (b ∷ new))) at (take turn.old (a ∷ old)) (take turn.new (b ∷ new)) in
+      left_some setting.within (next_place setting.old_end (drop turn.old (a ∷ old)))
+      (next_place setting.new_end (drop turn.new (b ∷ new))) at turn.old turn.new a b old new rest other leaves.some
       (sym (ap (λ (t : Bool). (if t then [] else left) ++ rest) leaves.differs) ∙ e)
 
   ordered_near : (turns : ℕ) (at : Standing) (old new : List MadeMark) → length old + length new ≤ turns →
@@ -242,7 +264,7 @@ module _ (setting : Setting) where
       by_test false other rest h =
           absurd
           (never_left turns at a b old new (nearest setting.within (a ∷ old) (b ∷ new))
-          (nearest_leaves setting.within (a ∷ old) (b ∷ new)) h)
+          (nearest_leaves setting.within (a ∷ old) (b ∷ new)) other h)
 
   near_ordered : (turns : ℕ) (at : Standing) (old new : List MadeMark) → all_near setting.within old new ≡ true →
       in_order setting turns at old new ≡ []
@@ -304,12 +326,12 @@ module _ (setting : Setting) where
       let all : List MadeMark = front ++ b ∷ new in
       let falses : List Bool = map (λ mark. false) new in
       let state : Matching = record { taken = replicate n true ++ false ∷ falses; earlier = earlier } in
-      let later : List Matched = earlier ++ record { new = n; edges = edges_of a.shape } ∷ [] in
+      let later : List Matched = earlier ++ record { new = n; footprint = footprint_of a.shape } ∷ [] in
       let found = first_here a b front new falses both.0 in
       let told : PageDifference =
       difference_at (stand_at setting.page number (n + 1)) a.place (next_place setting.new_end (drop n all)) Covers in
       let few : n ≤ n + 1 = omega arith in
-      let crossed = none_crossed n n (edges_of a.shape) earlier few before in
+      let crossed = none_crossed n n (footprint_of a.shape) earlier few before in
       let taken_is : set (replicate n true ++ false ∷ falses) n true ≡ replicate (length (front ++ b ∷ [])) true ++ falses =
       set_at (replicate n true) false falses true n (length_true n)
       ∙ (sym (append_assoc (replicate n true) (true ∷ []) falses) ∙ ap (λ l. l ++ falses) (all_true front b)) in
@@ -322,7 +344,7 @@ module _ (setting : Setting) where
       ∙ ((λ i. in_any_order setting (sym (append_assoc front (b ∷ []) new) i) (number + 1)
       (record { taken = taken_is i; earlier = later }) old)
       ∙ near_any old new (front ++ b ∷ []) (number + 1) later
-      (before_more n (length (front ++ b ∷ [])) earlier n (edges_of a.shape) beyond before) both.1))
+      (before_more n (length (front ++ b ∷ [])) earlier n (footprint_of a.shape) beyond before) both.1))
 
   pub near_in_any_order : (old new : List MadeMark) → all_near setting.within old new ≡ true →
       all_in_any_order setting old new ≡ []

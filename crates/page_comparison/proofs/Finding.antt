@@ -4,7 +4,7 @@ use Rattle.std.proofs.Common.{ap, arith, cond, drop, find, leb, length, refl, sy
 use Rattle.std.proofs.lemmas.Bool.{le-leb, lt-leb}
 use Rattle.page_comparison.specs.declared.page.PlacedMark.{PlacedMark}
 use Rattle.page_comparison.specs.declared.turn.Turn.{Turn}
-use Rattle.page_comparison.specs.InOrder.{go_alike, is_resumed, leaving, leavings, splits}
+use Rattle.page_comparison.specs.InOrder.{go_alike, is_resumed, leaving, leavings, run_of, runs, splits, ways}
 use Rattle.page_comparison.specs.Pages.{made_marks}
 use Rattle.page_comparison.proofs.Steps.{few_marks, rest_marks}
 
@@ -37,33 +37,88 @@ leavings_over : (together : ℕ) → leavings together 0 ≡ []
 unfolding leavings
 leavings_over together = refl
 
-module _ (p : Turn → Bool) (before most : ℕ) (found : Option Turn) where
-  next_leavings : before < most →
-      leavings (before + 1) (most - before) ≡ splits 0 (before + 1) ++ leavings (before + 1 + 1) (most - (before + 1))
-  next_leavings inside =
-      let more : most - before ≡ suc (most - (before + 1)) = omega (arith, inside) in
-      ap (leavings (before + 1)) more ∙ leavings_open (before + 1) (most - (before + 1))
+runs_open : (many times : ℕ) → runs many (suc times) ≡ run_of many ++ runs (many + 1) times
+unfolding runs
+runs_open many times = refl
 
+runs_over : (many : ℕ) → runs many 0 ≡ []
+unfolding runs
+runs_over many = refl
+
+-- L has the groups G, one behind another
+module _ (G : ℕ → List Turn) (L : (from times : ℕ) → List Turn)
+    (opens : (from times : ℕ) → L from (suc times) ≡ G from ++ L (from + 1) times) (over : (from : ℕ) → L from 0 ≡ [])
+    (start : ℕ) (p : Turn → Bool) (before most : ℕ) (found : Option Turn) where
+  next_group : before < most →
+      L (before + start) (most - before) ≡ G (before + start) ++ L (before + 1 + start) (most - (before + 1))
+  next_group inside =
+      let more : most - before ≡ suc (most - (before + 1)) = omega (arith, inside) in
+      let step : before + start + 1 ≡ before + 1 + start = omega arith in
+      ap (L (before + start)) more
+      ∙ (opens (before + start) (most - (before + 1)) ∙ ap (λ n. G (before + start) ++ L n (most - (before + 1))) step)
+
+  -- in a group there is no way, and in the next one there may be
+  group_more : before < most → None ≡ find p (G (before + start)) → find p (L (before + start) (most - before)) ≡ found →
+      find p (L (before + 1 + start) (most - (before + 1))) ≡ found
+  group_more inside none so_far =
+      sym
+      (ap (find p) (next_group inside)
+      ∙ find_behind p (G (before + start)) (L (before + 1 + start) (most - (before + 1))) (sym none))
+      ∙ so_far
+
+  group_found : before < most → (turn : Turn) → Some turn ≡ find p (G (before + start)) →
+      find p (L (before + start) (most - before)) ≡ found → Some turn ≡ found
+  group_found inside turn is so_far =
+      sym
+      (ap (find p) (next_group inside)
+      ∙ find_before p (G (before + start)) (L (before + 1 + start) (most - (before + 1))) turn (sym is))
+      ∙ so_far
+
+  group_end : most ≤ before → find p (L (before + start) (most - before)) ≡ found → None ≡ found
+  group_end past so_far =
+      let none : most - before ≡ 0 = omega (arith, past) in
+      sym (ap (λ n. find p (L (before + start) n)) none ∙ ap (find p) (over (before + start))) ∙ so_far
+
+module _ (p : Turn → Bool) (before most : ℕ) (found : Option Turn) where
   -- by so many together there is no way, and by one more there may be
   pub leaving_more : before < most → None ≡ find p (splits 0 (before + 1)) →
       find p (leavings (before + 1) (most - before)) ≡ found →
       find p (leavings (before + 1 + 1) (most - (before + 1))) ≡ found
-  leaving_more inside none so_far =
-      sym (ap (find p) (next_leavings inside)
-      ∙ find_behind p (splits 0 (before + 1)) (leavings (before + 1 + 1) (most - (before + 1))) (sym none))
-      ∙ so_far
+  leaving_more = group_more (splits 0) leavings leavings_open leavings_over 1 p before most found
 
   pub leaving_found : before < most → (turn : Turn) → Some turn ≡ find p (splits 0 (before + 1)) →
       find p (leavings (before + 1) (most - before)) ≡ found → Some turn ≡ found
-  leaving_found inside turn is so_far =
-      sym (ap (find p) (next_leavings inside)
-      ∙ find_before p (splits 0 (before + 1)) (leavings (before + 1 + 1) (most - (before + 1))) turn (sym is))
-      ∙ so_far
+  leaving_found = group_found (splits 0) leavings leavings_open leavings_over 1 p before most found
 
   pub leaving_end : most ≤ before → find p (leavings (before + 1) (most - before)) ≡ found → None ≡ found
-  leaving_end past so_far =
-      let none : most - before ≡ 0 = omega (arith, past) in
-      sym (ap (λ n. find p (leavings (before + 1) n)) none ∙ ap (find p) (leavings_over (before + 1))) ∙ so_far
+  leaving_end = group_end (splits 0) leavings leavings_open leavings_over 1 p before most found
+
+  -- the same of one page alone
+  pub run_more : before < most → None ≡ find p (run_of (before + 65)) → find p (runs (before + 65) (most - before)) ≡ found →
+      find p (runs (before + 1 + 65) (most - (before + 1))) ≡ found
+  run_more = group_more run_of runs runs_open runs_over 65 p before most found
+
+  pub run_found : before < most → (turn : Turn) → Some turn ≡ find p (run_of (before + 65)) →
+      find p (runs (before + 65) (most - before)) ≡ found → Some turn ≡ found
+  run_found = group_found run_of runs runs_open runs_over 65 p before most found
+
+  pub run_end : most ≤ before → find p (runs (before + 65) (most - before)) ≡ found → None ≡ found
+  run_end = group_end run_of runs runs_open runs_over 65 p before most found
+
+-- ---- all ways
+
+ways_open : ways ≡ leavings 1 64 ++ runs 65 4032
+unfolding ways
+ways_open = refl
+
+module _ (p : Turn → Bool) where
+  pub way_found : (turn : Turn) → Some turn ≡ find p (leavings 1 64) → Some turn ≡ find p ways
+  way_found turn is =
+      sym (ap (find p) ways_open ∙ find_before p (leavings 1 64) (runs 65 4032) turn (sym is))
+
+  pub way_among_runs : None ≡ find p (leavings 1 64) → find p (runs 65 4032) ≡ find p ways
+  way_among_runs none =
+      sym (ap (find p) ways_open ∙ find_behind p (leavings 1 64) (runs 65 4032) (sym none))
 
 -- ---- so many together
 

@@ -8,13 +8,13 @@ use Rattle.std.proofs.lemmas.List.{at_drop_all, at_drop_more, length-map, length
 use Rattle.std.proofs.lemmas.Option.{same_Some}
 use Rattle.page_comparison.specs.declared.bag.Matched.{Matched}
 use Rattle.page_comparison.specs.declared.differences.PageDifference.{PageDifference}
-use Rattle.page_comparison.specs.declared.edges.Edges.{Edges}
+use Rattle.page_comparison.specs.declared.footprint.Footprint.{Footprint}
 use Rattle.page_comparison.specs.declared.page.PlacedMark.{PlacedMark}
 use Rattle.page_comparison.specs.declared.setting.Setting.{Setting}
 use Rattle.page_comparison.specs.AnyOrder.{Matching, first_free, free_told, in_any_order, is_crossed, is_match}
 use Rattle.page_comparison.specs.AnyOrder.{mark_told, matched_with, none_matched}
 use Rattle.page_comparison.specs.Kept.{Kept, kept_all}
-use Rattle.page_comparison.specs.Marks.{overlap}
+use Rattle.page_comparison.specs.Marks.{hides}
 use Rattle.page_comparison.specs.Pages.{MadeMark, made_mark, made_marks}
 use Rattle.page_comparison.proofs.Keeping.{kept_all-append}
 
@@ -190,23 +190,23 @@ front_marked taken front place inside here marked n n_is = by_test (place == fro
 abbrev pub AreBefore : ℕ → List Matched → Type 0
 AreBefore beyond earlier = AllByRecursion (λ (m : Matched). m.new < beyond) earlier
 
-pub before_more : (beyond beyond' : ℕ) (earlier : List Matched) (place : ℕ) (edges : Edges) →
+pub before_more : (beyond beyond' : ℕ) (earlier : List Matched) (place : ℕ) (footprint : Footprint) →
     beyond' ≡ max beyond (place + 1) → AreBefore beyond earlier →
-    AreBefore beyond' (earlier ++ record { new = place; edges = edges } ∷ [])
-before_more beyond beyond' [] place edges is h = (omega (arith, is), tt)
-before_more beyond beyond' (m ∷ earlier) place edges is h =
-    (omega (arith, is, h.0), before_more beyond beyond' earlier place edges is h.1)
+    AreBefore beyond' (earlier ++ record { new = place; footprint = footprint } ∷ [])
+before_more beyond beyond' [] place footprint is h = (omega (arith, is), tt)
+before_more beyond beyond' (m ∷ earlier) place footprint is h =
+    (omega (arith, is, h.0), before_more beyond beyond' earlier place footprint is h.1)
 
 -- what stands before a place crosses nothing there
-pub none_crossed : (beyond place : ℕ) (edges : Edges) (earlier : List Matched) → beyond ≤ place + 1 → AreBefore beyond earlier →
-    false ≡ list_any (is_crossed place edges) earlier
-none_crossed beyond place edges [] few h = refl
-none_crossed beyond place edges (m ∷ earlier) few h =
+pub none_crossed : (beyond place : ℕ) (footprint : Footprint) (earlier : List Matched) → beyond ≤ place + 1 → AreBefore beyond earlier →
+    false ≡ list_any (is_crossed place footprint) earlier
+none_crossed beyond place footprint [] few h = refl
+none_crossed beyond place footprint (m ∷ earlier) few h =
     let behind : m.new ≤ place = omega (arith, few, h.0) in
     let test : nat_lt place m.new ≡ false = le-ltb place m.new behind in
     sym
-    (ap (λ b. (b && overlap m.edges edges) || list_any (is_crossed place edges) earlier) test
-    ∙ sym (none_crossed beyond place edges earlier few h.1))
+    (ap (λ b. (b && hides m.footprint footprint) || list_any (is_crossed place footprint) earlier) test
+    ∙ sym (none_crossed beyond place footprint earlier few h.1))
 
 -- ---- what is told
 

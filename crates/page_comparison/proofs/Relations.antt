@@ -24,13 +24,12 @@ use Rattle.comparison.proofs.Sameness.{compared_same, event_same, same_event}
 use Rattle.comparison.proofs.SoFar.{compared_behind}
 use Rattle.page_comparison.specs.declared.differences.Most.{Most}
 use Rattle.page_comparison.specs.declared.differences.Nearness.{Nearness}
-use Rattle.page_comparison.specs.declared.differences.PageChange.TheVariants.{PageEnds}
 use Rattle.page_comparison.specs.declared.differences.PageDifference.{PageDifference}
 use Rattle.page_comparison.specs.declared.setting.Setting.{Setting}
 use Rattle.page_comparison.specs.AnyOrder.{stand_at}
 use Rattle.page_comparison.specs.Comparison.{SamePages, ToldPages, are_same_ends, by_page, comparison_from, differing_pairs, differs}
-use Rattle.page_comparison.specs.Comparison.{NewFailing, OldFailing, OtherPages, ends_compared, failing_or, listing_of, marks_compared}
-use Rattle.page_comparison.specs.Comparison.{pages_compared, pairs_of, setting_of}
+use Rattle.page_comparison.specs.Comparison.{NewFailing, OldFailing, OtherPages, end_change, ends_compared, failing_or, listing_of}
+use Rattle.page_comparison.specs.Comparison.{marks_compared, pages_compared, pairs_of, setting_of}
 use Rattle.page_comparison.specs.Laws.{AreSame, IsExact, IsSameAsItself, NeedsNoOrder, near_by}
 use Rattle.page_comparison.specs.Pages.{MadeMark, MadePage, by_event, last_page, no_page, paired, pages_counted, pages_from, pages_of}
 use Rattle.page_comparison.specs.Pages.{shapes_of}
@@ -98,7 +97,9 @@ ends_tell : (page : ℕ) (a b : MadePage) → ends_compared page a b ≡ [] → 
 ends_tell page a b e = by_test (are_same_ends a.end b.end) refl e
   where
     by_test : (t : Bool) → are_same_ends a.end b.end ≡ t →
-        (if t then [] else difference_at (stand_at page (length a.marks + 1) (length b.marks + 1)) a.place b.place PageEnds ∷ []) ≡ [] →
+        (if t then []
+        else difference_at (stand_at page (length a.marks + 1) (length b.marks + 1)) a.place b.place (end_change a.end b.end) ∷ [])
+        ≡ [] →
         are_same_ends a.end b.end ≡ true
     by_test true is h = is
     by_test false is h = absurd cc
@@ -106,7 +107,8 @@ ends_tell page a b e = by_test (are_same_ends a.end b.end) refl e
 same_ends_tell_none : (page : ℕ) (a b : MadePage) → are_same_ends a.end b.end ≡ true → ends_compared page a b ≡ []
 same_ends_tell_none page a b is =
     ap
-    (λ (t : Bool). if t then [] else difference_at (stand_at page (length a.marks + 1) (length b.marks + 1)) a.place b.place PageEnds ∷ [])
+    (λ (t : Bool). if t then []
+    else difference_at (stand_at page (length a.marks + 1) (length b.marks + 1)) a.place b.place (end_change a.end b.end) ∷ [])
     is
 
 -- two pages are near in their order

@@ -7,9 +7,8 @@ use Rattle.page_comparison.specs.declared.differences.PageDifference.{PageDiffer
 use Rattle.page_comparison.specs.declared.page.PlacedMark.{PlacedMark}
 use Rattle.page_comparison.specs.declared.standing.Standing.{Standing}
 use Rattle.page_comparison.specs.Kept.{Kept, kept_all, kept_with}
-use Rattle.page_comparison.specs.Marks.{changed}
 use Rattle.page_comparison.specs.Pages.{MadeMark, made_mark, made_marks}
-use Rattle.page_comparison.specs.Told.{behind, difference_at, left_out, only_new, only_old}
+use Rattle.page_comparison.specs.Told.{behind, difference_at, left_out, only_new, only_old, pair_told}
 use Rattle.page_comparison.proofs.Keeping.{kept_all-append}
 
 -- ---- parts of the marks of a page
@@ -79,37 +78,38 @@ module _ {A : Type 0} (place : ℕ) where
 -- ---- what is told pair by pair
 
 -- where one of the lists has no more
-left_out_end : (old_place new_place : ℕ) (at : Standing) (old new : List MadeMark) → min (length old) (length new) ≡ 0 →
-    left_out old_place new_place at old new ≡ only_old new_place at old ++ only_new old_place at new
-left_out_end old_place new_place at [] new none = refl
-left_out_end old_place new_place at (a ∷ old) [] none = sym (append-nil (only_old new_place at (a ∷ old)))
-left_out_end old_place new_place at (a ∷ old) (b ∷ new) none = absurd (omega (arith, none))
+left_out_end : (within old_place new_place : ℕ) (at : Standing) (old new : List MadeMark) → min (length old) (length new) ≡ 0 →
+    left_out within old_place new_place at old new ≡ only_old new_place at old ++ only_new old_place at new
+left_out_end within old_place new_place at [] new none = refl
+left_out_end within old_place new_place at (a ∷ old) [] none = sym (append-nil (only_old new_place at (a ∷ old)))
+left_out_end within old_place new_place at (a ∷ old) (b ∷ new) none = absurd (omega (arith, none))
 
-module _ {A : Type 0} (old_place new_place : ℕ) where
+module _ {A : Type 0} (within old_place new_place : ℕ) where
   pub pair_more : (xs ys : List (PlacedMark A)) (i : ℕ) (x y : PlacedMark A) → i < length xs → i < length ys →
       x ≡ get_or xs i x → y ≡ get_or ys i y → (at at' : Standing) → at' ≡ behind 1 1 at → (k k' k0 : Kept) →
-      k' ≡ kept_with (difference_at at x.place y.place (changed (made_mark x) (made_mark y))) k →
-      kept_all (left_out old_place new_place at (made_marks (drop i xs)) (made_marks (drop i ys))) k ≡ k0 →
-      kept_all (left_out old_place new_place at' (made_marks (drop (i + 1) xs)) (made_marks (drop (i + 1) ys))) k' ≡ k0
+      k' ≡ kept_all (pair_told within at (made_mark x) (made_mark y)) k →
+      kept_all (left_out within old_place new_place at (made_marks (drop i xs)) (made_marks (drop i ys))) k ≡ k0 →
+      kept_all (left_out within old_place new_place at' (made_marks (drop (i + 1) xs)) (made_marks (drop (i + 1) ys))) k' ≡ k0
   pair_more xs ys i x y in_xs in_ys x_is y_is at at' at_is k k' k0 k_is so_far =
       let xs' : List (PlacedMark A) = drop (i + 1) xs in
       let ys' : List (PlacedMark A) = drop (i + 1) ys in
       let F : Standing → List (PlacedMark A) → List (PlacedMark A) → List PageDifference =
-      λ s l m. left_out old_place new_place s (made_marks l) (made_marks m) in
+      λ s l m. left_out within old_place new_place s (made_marks l) (made_marks m) in
       let first : F at (drop i xs) (drop i ys) ≡ F at (x ∷ xs') (y ∷ ys') =
       at_drop_more (λ l. F at l (drop i ys)) xs i x in_xs
       ∙ (ap (λ z. F at (z ∷ xs') (drop i ys)) (sym x_is)
       ∙ (at_drop_more (λ m. F at (x ∷ xs') m) ys i y in_ys ∙ ap (λ z. F at (x ∷ xs') (z ∷ ys')) (sym y_is))) in
       ap (λ s. kept_all (F s xs' ys') k') at_is
       ∙ (ap (kept_all (F (behind 1 1 at) xs' ys')) k_is
-      ∙ (sym (ap (λ l. kept_all l k) first) ∙ so_far))
+      ∙ (sym (kept_all-append (pair_told within at (made_mark x) (made_mark y)) (F (behind 1 1 at) xs' ys') k)
+      ∙ (sym (ap (λ l. kept_all l k) first) ∙ so_far)))
 
   -- what one list has more is told behind the pairs
   pub pairs_end : (xs ys : List (PlacedMark A)) (pairs i : ℕ) → pairs ≡ min (length xs) (length ys) → i ≡ pairs →
       (at : Standing) (k k' k'' k0 : Kept) →
       k' ≡ kept_all (only_old new_place at (made_marks (take (length xs - pairs) (drop pairs xs)))) k →
       k'' ≡ kept_all (only_new old_place at (made_marks (take (length ys - pairs) (drop pairs ys)))) k' →
-      kept_all (left_out old_place new_place at (made_marks (drop i xs)) (made_marks (drop i ys))) k ≡ k0 → k'' ≡ k0
+      kept_all (left_out within old_place new_place at (made_marks (drop i xs)) (made_marks (drop i ys))) k ≡ k0 → k'' ≡ k0
   pairs_end xs ys pairs i pairs_are here at k k' k'' k0 of_old of_new so_far =
       let one : List MadeMark = made_marks (drop pairs xs) in
       let other : List MadeMark = made_marks (drop pairs ys) in
@@ -127,6 +127,6 @@ module _ {A : Type 0} (old_place new_place : ℕ) where
       ∙ (ap (kept_all (only_new old_place at other))
       (of_old ∙ (λ j. kept_all (only_old new_place at (made_marks (take_rest xs pairs j))) k))
       ∙ (sym (kept_all-append (only_old new_place at one) (only_new old_place at other) k)
-      ∙ (sym (ap (λ l. kept_all l k) (left_out_end old_place new_place at one other none))
-      ∙ (ap (λ n. kept_all (left_out old_place new_place at (made_marks (drop n xs)) (made_marks (drop n ys))) k) (sym here)
+      ∙ (sym (ap (λ l. kept_all l k) (left_out_end within old_place new_place at one other none))
+      ∙ (ap (λ n. kept_all (left_out within old_place new_place at (made_marks (drop n xs)) (made_marks (drop n ys))) k) (sym here)
       ∙ so_far)))))

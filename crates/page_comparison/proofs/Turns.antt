@@ -22,7 +22,7 @@ pub turn_passed : (setting : Setting) (at : Standing) (old new : List MadeMark) 
     k ≡ kept_all (turn_told setting at old new turn) k
 turn_passed setting at old new turn k same =
     let left : List PageDifference =
-    left_out (next_place setting.old_end (drop turn.old old)) (next_place setting.new_end (drop turn.new new)) at
+    left_out setting.within (next_place setting.old_end (drop turn.old old)) (next_place setting.new_end (drop turn.new new)) at
     (take turn.old old) (take turn.new new) in
     ap (λ (t : Bool). kept_all (if t then [] else left) k) (sym same)
 
@@ -80,7 +80,7 @@ module _ {A : Type 0} (setting : Setting) where
       old_place ≡ next_place setting.old_end (made_marks (take (length xs - turn.old) (drop turn.old xs))) →
       new_place ≡ next_place setting.new_end (made_marks (take (length ys - turn.new) (drop turn.new ys))) →
       k' ≡ kept_all
-      (left_out old_place new_place at (made_marks (take turn.old xs)) (made_marks (take turn.new ys))) k →
+      (left_out setting.within old_place new_place at (made_marks (take turn.old xs)) (made_marks (take turn.new ys))) k →
       k' ≡ kept_all (turn_told setting at (made_marks xs) (made_marks ys) turn) k
   turn_left at xs ys turn old_place new_place k k' other old_is new_is k_is =
       let old : List MadeMark = made_marks xs in
@@ -90,10 +90,11 @@ module _ {A : Type 0} (setting : Setting) where
       let new_next : new_place ≡ next_place setting.new_end (drop turn.new new) =
       new_is ∙ ap (next_place setting.new_end) (rest_marks ys turn.new) in
       let left : List PageDifference =
-      left_out (next_place setting.old_end (drop turn.old old)) (next_place setting.new_end (drop turn.new new)) at
+      left_out setting.within (next_place setting.old_end (drop turn.old old)) (next_place setting.new_end (drop turn.new new)) at
       (take turn.old old) (take turn.new new) in
       k_is
-      ∙ ((λ j. kept_all (left_out (old_next j) (new_next j) at (front_marks xs turn.old j) (front_marks ys turn.new j)) k)
+      ∙ ((λ j. kept_all
+      (left_out setting.within (old_next j) (new_next j) at (front_marks xs turn.old j) (front_marks ys turn.new j)) k)
       ∙ ap (λ (t : Bool). kept_all (if t then [] else left) k) (sym other))
 
 -- ---- the next turn

@@ -5,10 +5,10 @@ use Rattle.std.specs.List.{list_any}
 use Rattle.page_comparison.specs.declared.bag.Matched.{Matched}
 use Rattle.page_comparison.specs.declared.differences.PageChange.TheVariants.{OnlyInOld, OnlyInNew, Covers}
 use Rattle.page_comparison.specs.declared.differences.PageDifference.{PageDifference}
-use Rattle.page_comparison.specs.declared.edges.Edges.{Edges}
+use Rattle.page_comparison.specs.declared.footprint.Footprint.{Footprint}
 use Rattle.page_comparison.specs.declared.setting.Setting.{Setting}
 use Rattle.page_comparison.specs.declared.standing.Standing.{Standing}
-use Rattle.page_comparison.specs.Marks.{edges_of, is_near_mark, overlap}
+use Rattle.page_comparison.specs.Marks.{footprint_of, hides, is_near_mark}
 use Rattle.page_comparison.specs.Pages.{MadeMark}
 use Rattle.page_comparison.specs.Told.{difference_at, next_place}
 
@@ -22,7 +22,7 @@ first_free within a (b ∷ new) [] = None
 first_free within a (b ∷ new) (t ∷ taken) =
     if is_match within a b t then Some 0 else option_map (λ i. i + 1) (first_free within a new taken)
 
--- which marks of NEW are matched, and with what boxes of OLD, in OLD's order
+-- which marks of NEW are matched, and what the marks of OLD cover that match them, in OLD's order
 pub record Matching : Type 0 where
   pub taken : List Bool
   pub earlier : List Matched
@@ -31,12 +31,12 @@ abbrev pub matched_with : MadeMark → Option ℕ → Matching → Matching
 matched_with a None matching = matching
 matched_with a (Some i) matching = record {
   taken = slice_set matching.taken i true;
-  earlier = matching.earlier ++ record { new = i; edges = edges_of a.shape } ∷ [];
+  earlier = matching.earlier ++ record { new = i; footprint = footprint_of a.shape } ∷ [];
 }
 
--- NEW makes the earlier mark behind this one, and they overlap
-abbrev pub is_crossed : ℕ → Edges → Matched → Bool
-is_crossed i edges earlier = nat_lt i earlier.new && overlap earlier.edges edges
+-- NEW makes the earlier mark behind this one, and one of them is white and overlaps the other
+abbrev pub is_crossed : ℕ → Footprint → Matched → Bool
+is_crossed i footprint earlier = nat_lt i earlier.new && hides earlier.footprint footprint
 
 -- the page, and the numbers of two of its marks
 abbrev pub stand_at : (page old_mark new_mark : ℕ) → Standing
@@ -48,7 +48,7 @@ mark_told setting new number a earlier None =
     difference_at (stand_at setting.page number (length new + 1)) a.place setting.new_end OnlyInOld ∷ []
 mark_told setting new number a earlier (Some i) =
     let next = next_place setting.new_end (drop i new) in
-    if list_any (is_crossed i (edges_of a.shape)) earlier
+    if list_any (is_crossed i (footprint_of a.shape)) earlier
     then difference_at (stand_at setting.page number (i + 1)) a.place next Covers ∷ [] else []
 
 -- the marks of NEW from this number on that have no match

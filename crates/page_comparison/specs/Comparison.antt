@@ -15,7 +15,8 @@ use Rattle.comparison.specs.Comparison.{all_made, end_of, failure_on}
 use Rattle.page_comparison.specs.declared.differences.Most.{Most}
 use Rattle.page_comparison.specs.declared.differences.Differences.{Differences}
 use Rattle.page_comparison.specs.declared.differences.Nearness.{Nearness}
-use Rattle.page_comparison.specs.declared.differences.PageChange.TheVariants.{PageEnds}
+use Rattle.page_comparison.specs.declared.differences.PageChange.{PageChange}
+use Rattle.page_comparison.specs.declared.differences.PageChange.TheVariants.{PageEnds, PageOnlyInOld, PageOnlyInNew}
 use Rattle.page_comparison.specs.declared.differences.PageComparison.{PageComparison}
 use Rattle.page_comparison.specs.declared.differences.PageComparison.TheVariants as comparisons
 use Rattle.page_comparison.specs.declared.differences.PageDifference.{PageDifference}
@@ -43,10 +44,18 @@ are_same_ends None (Some b) = false
 are_same_ends (Some a) None = false
 are_same_ends (Some a) (Some b) = is_same_end a b
 
+-- what differs between two ends that are not the same: a page that has none is one that the job does not have
+abbrev pub end_change : Option PageEnd → Option PageEnd → PageChange
+end_change None None = PageEnds
+end_change None (Some b) = PageOnlyInNew
+end_change (Some a) None = PageOnlyInOld
+end_change (Some a) (Some b) = PageEnds
+
 abbrev pub ends_compared : ℕ → MadePage → MadePage → List PageDifference
 ends_compared page a b =
     if are_same_ends a.end b.end then []
-    else difference_at (stand_at page (length a.marks + 1) (length b.marks + 1)) a.place b.place PageEnds ∷ []
+    else difference_at (stand_at page (length a.marks + 1) (length b.marks + 1)) a.place b.place
+    (end_change a.end b.end) ∷ []
 
 -- the marks, and then how they end
 abbrev pub page_differences : Nearness → ℕ → MadePage → MadePage → List PageDifference

@@ -42,9 +42,23 @@ unfoldable pub leavings : (together times : ℕ) → List Turn
 leavings together zero = []
 leavings together (suc times) = splits 0 together ++ leavings (together + 1) times
 
--- the nearest way to go on alike, by 64 marks that are left out together, or else the next two marks are a pair
+-- so many of one page alone
+abbrev pub run_of : (many : ℕ) → List Turn
+run_of many = leaving 0 many ∷ leaving many 0 ∷ []
+
+-- so many of one page alone, and then always one more
+unfoldable pub runs : (many times : ℕ) → List Turn
+runs many zero = []
+runs many (suc times) = run_of many ++ runs (many + 1) times
+
+-- The ways to go on alike, the nearest first: by up to 64 marks that are left out together, and behind these by a
+-- longer run of marks, of up to 4,096, that one page alone has.
+unfoldable pub ways : List Turn
+ways = leavings 1 64 ++ runs 65 4032
+
+-- the nearest way, or else the next two marks are a pair
 unfoldable pub nearest : ℕ → List MadeMark → List MadeMark → Turn
-nearest within old new = unwrap_or (find (is_resumed within old new) (leavings 1 64)) (leaving 1 1)
+nearest within old new = unwrap_or (find (is_resumed within old new) ways) (leaving 1 1)
 
 -- The next turn: near marks are taken for the same, or marks are left out. Where one page has no more, the rest of the
 -- other is left out.
@@ -59,8 +73,8 @@ turn_of within (a ∷ old) (b ∷ new) =
 abbrev pub turn_told : Setting → Standing → List MadeMark → List MadeMark → Turn → List PageDifference
 turn_told setting at old new turn =
     if turn.same then []
-    else left_out (next_place setting.old_end (drop turn.old old)) (next_place setting.new_end (drop turn.new new)) at
-    (take turn.old old) (take turn.new new)
+    else left_out setting.within (next_place setting.old_end (drop turn.old old))
+    (next_place setting.new_end (drop turn.new new)) at (take turn.old old) (take turn.new new)
 
 -- the differences of the rests of two pages, in so many turns
 abbrev pub in_order : Setting → (turns : ℕ) → Standing → List MadeMark → List MadeMark → List PageDifference

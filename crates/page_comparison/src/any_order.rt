@@ -18,7 +18,7 @@ ghost use Rattle.page_comparison.specs.Told.{difference_at, next_place};
 
 use crate::bag::Bag;
 use crate::differences::PageChange;
-use crate::edges::edges_of;
+use crate::footprint::footprint_of;
 use crate::in_order::next_place;
 use crate::listing::Listing;
 use crate::page::PlacedMark;
@@ -112,10 +112,10 @@ fn tell_matched<A: Allocator + Copy>(
     ensures matched { OnOk result (bag.new
         ≡ matched_with (made_mark mark.now) (Some place) bag.old) }
 {
-    let edges = edges_of(&mark.mark);
-    let crossed = bag.is_crossed(place, &edges);
+    let footprint = footprint_of(&mark.mark);
+    let crossed = bag.is_crossed(place, &footprint);
     tell_if_crossed(setting, new, number, mark, place, crossed, listing)?;
-    bag.take(place, edges)
+    bag.take(place, footprint)
 }
 
 /// Tells, where it does, that a mark of OLD covers another one otherwise than its match at a place.

@@ -7,17 +7,17 @@ ghost use Rattle.std.specs.List.{list_any};
 ghost use Rattle.page_comparison.specs.AnyOrder.{first_free, is_crossed, is_match, none_matched};
 ghost use Rattle.page_comparison.specs.Pages.{made_mark, made_marks};
 
-use crate::edges::{Edges, overlap};
+use crate::footprint::{Footprint, hides};
 use crate::nearness::is_near;
 use crate::page::PlacedMark;
 use std::alloc::{AllocError, Allocator};
 use std::marker::Model;
 
-/// The place in NEW of a mark that is matched, and the box of OLD's mark.
+/// The place in NEW of a mark that is matched, and what OLD's mark covers.
 #[derive(Clone, Copy)]
 pub(crate) struct Matched {
     pub(crate) new: usize,
-    pub(crate) edges: Edges,
+    pub(crate) footprint: Footprint,
 }
 
 /// Which marks of NEW are matched, and what with.
@@ -96,34 +96,37 @@ impl<A: Allocator + Copy> Bag<A> {
         !self.is_taken(place) && is_near(&one.mark, &other.mark, within)
     }
 
-    /// The mark at this place is matched with one of OLD that has this box.
+    /// The mark at this place is matched with one of OLD that has this footprint.
     ///
     /// An error means that the allocator refused a request.
-    pub(crate) fn take(&mut self, place: usize, edges: Edges) -> Result<(), AllocError>
+    pub(crate) fn take(&mut self, place: usize, footprint: Footprint) -> Result<(), AllocError>
         requires { place < length self.old.taken }
         ensures { OnOk result (self.new ≡ record {
           taken = slice_set self.old.taken place true;
-          earlier = self.old.earlier ++ record { new = place; edges = edges } ∷ [];
+          earlier = self.old.earlier ++ record { new = place; footprint = footprint } ∷ [];
         }) }
     {
-        self.earlier.push(Matched { new: place, edges })?;
+        self.earlier.push(Matched {
+            new: place,
+            footprint,
+        })?;
         self.taken[place] = true;
         self.front = next_front(self.front, place);
         self.beyond = self.beyond.max(place + 1);
         Ok(())
     }
 
-    /// Whether the mark at a place overlaps one that is made before it by OLD and behind it by NEW,
-    /// where OLD's mark has this box.
-    pub(crate) fn is_crossed(&self, place: usize, edges: &Edges) -> bool
+    /// Whether the mark at a place and one that is made before it by OLD and behind it by NEW hide
+    /// each other, where OLD's mark has this footprint.
+    pub(crate) fn is_crossed(&self, place: usize, footprint: &Footprint) -> bool
         requires { place < length self.now.taken }
-        ensures { result ≡ list_any (is_crossed place edges.now) self.now.earlier }
+        ensures { result ≡ list_any (is_crossed place footprint.now) self.now.earlier }
     {
         let last = self.beyond <= place + 1;
         if last {
             return false;
         }
-        is_crossed_by(place, edges, self.earlier.as_slice())
+        is_crossed_by(place, footprint, self.earlier.as_slice())
     }
 
     /// Whether the mark at a place is matched.
@@ -157,20 +160,20 @@ fn none_taken<A: Allocator + Copy>(
     Ok(taken)
 }
 
-fn is_crossed_by(place: usize, edges: &Edges, earlier: &[Matched]) -> bool
-    ensures { result ≡ list_any (is_crossed place edges.now) earlier.now }
+fn is_crossed_by(place: usize, footprint: &Footprint, earlier: &[Matched]) -> bool
+    ensures { result ≡ list_any (is_crossed place footprint.now) earlier.now }
 {
     for matched in earlier {
-        if crosses(place, edges, matched) {
+        if crosses(place, footprint, matched) {
             return true;
         }
     }
     false
 }
 
-/// Whether NEW makes an earlier mark behind the one at a place, and they overlap.
-fn crosses(place: usize, edges: &Edges, earlier: &Matched) -> bool
-    ensures { result ≡ is_crossed place edges.now earlier.now }
+/// Whether NEW makes an earlier mark behind the one at a place, and one of them hides the other.
+fn crosses(place: usize, footprint: &Footprint, earlier: &Matched) -> bool
+    ensures { result ≡ is_crossed place footprint.now earlier.now }
 {
-    place < earlier.new && overlap(&earlier.edges, edges)
+    place < earlier.new && hides(&earlier.footprint, footprint)
 }

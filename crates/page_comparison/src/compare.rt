@@ -10,6 +10,7 @@ ghost use Rattle.sinks.specs.Counts.{counted, counts_after};
 ghost use Rattle.page_comparison.specs.Comparison.{
   IsPageComparison,
   are_same_ends,
+  end_change,
   ends_compared,
   marks_compared,
   page_differences,
@@ -312,7 +313,19 @@ fn tell_ends<A: Allocator>(
         old_mark: one.marks.len() as u64 + 1,
         new_mark: other.marks.len() as u64 + 1,
     };
-    listing.tell(at.difference(one.place, other.place, PageChange::PageEnds))
+    let change = end_change(one.end, other.end);
+    listing.tell(at.difference(one.place, other.place, change))
+}
+
+/// What differs between two ends that are not the same.
+fn end_change(one: Option<PageEnd>, other: Option<PageEnd>) -> PageChange
+    ensures { result ≡ end_change one other }
+{
+    match (one, other) {
+        (None, Some(_)) => PageChange::PageOnlyInNew,
+        (Some(_), None) => PageChange::PageOnlyInOld,
+        _ => PageChange::PageEnds,
+    }
 }
 
 fn are_same_ends(one: Option<PageEnd>, other: Option<PageEnd>) -> bool

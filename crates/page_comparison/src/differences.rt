@@ -40,10 +40,14 @@ pub enum PageChange {
     OnlyInOld,
     /// NEW has one that OLD does not have.
     OnlyInNew,
-    /// The page ends with other values, or one of the jobs does not have it.
+    /// The page ends with other values.
     PageEnds,
-    /// The mark of OLD overlaps one that OLD makes before it and NEW behind it: one covers the
-    /// other otherwise.
+    /// OLD has the page, and NEW does not.
+    PageOnlyInOld,
+    /// NEW has the page, and OLD does not.
+    PageOnlyInNew,
+    /// The mark of OLD overlaps one that OLD makes before it and NEW behind it, and exactly one of
+    /// them is white: it covers otherwise.
     Covers,
 }
 

@@ -2,14 +2,14 @@
 
 ghost use Rattle.std.specs.Prelude.{◌≡◌, ◌≤◌, ◌^◌, OnOk, length};
 ghost use Rattle.page_comparison.specs.InOrder.{all_in_order, turn_told};
-ghost use Rattle.page_comparison.specs.Kept.{kept_all, kept_with};
+ghost use Rattle.page_comparison.specs.Kept.{kept_all};
 ghost use Rattle.page_comparison.specs.Marks.{changed};
 ghost use Rattle.page_comparison.specs.Pages.{made_mark, made_marks};
-ghost use Rattle.page_comparison.specs.Told.{difference_at, left_out, next_place};
-ghost use Rattle.page_comparison.specs.Told.{only_new, only_old};
+ghost use Rattle.page_comparison.specs.Told.{left_out, next_place, only_new, only_old, pair_told};
 
 use crate::differences::PageChange;
 use crate::listing::Listing;
+use crate::nearness::is_near;
 use crate::page::PlacedMark;
 use crate::setting::Setting;
 use crate::standing::Standing;
@@ -66,6 +66,7 @@ fn tell_turn<A: Allocator>(
     let old_place = next_place(&old[turn.old..], setting.old_end);
     let new_place = next_place(&new[turn.new..], setting.new_end);
     tell_left_out(
+        setting.within,
         (old_place, new_place),
         at,
         &old[..turn.old],
@@ -87,36 +88,40 @@ pub(crate) fn next_place<A: Allocator>(marks: &[PlacedMark<A>], end: Place) -> P
 /// Tells of marks that are left out of both pages: pair by pair, and then of those that one has
 /// more. Behind them the next items stand at these places of OLD and NEW.
 fn tell_left_out<A: Allocator>(
+    within: u64,
     next: (Place, Place),
     start: Standing,
     old: &[PlacedMark<A>],
     new: &[PlacedMark<A>],
     listing: &mut Listing<A>,
 ) -> Result<(), AllocError>
-    ensures { OnOk result (listing.new ≡ kept_all
-        (left_out next.0 next.1 start (made_marks old.now) (made_marks new.now)) listing.old) }
+    ensures { OnOk result (listing.new ≡ kept_all (left_out within next.0 next.1 start
+        (made_marks old.now) (made_marks new.now)) listing.old) }
 {
     let pairs = old.len().min(new.len());
     let mut at = start;
     for index in 0..pairs {
-        tell_pair(at, &old[index], &new[index], listing)?;
+        tell_pair(within, at, &old[index], &new[index], listing)?;
         at = at.behind(1, 1);
     }
     tell_only_old(next.1, at, &old[pairs..], listing)?;
     tell_only_new(next.0, at, &new[pairs..], listing)
 }
 
-/// Tells that a mark of NEW stands for one of OLD.
+/// Tells that a mark of NEW stands for one of OLD, unless they are near.
 fn tell_pair<A: Allocator>(
+    within: u64,
     at: Standing,
     one: &PlacedMark<A>,
     other: &PlacedMark<A>,
     listing: &mut Listing<A>,
 ) -> Result<(), AllocError>
-    ensures { let a = made_mark one.now in let b = made_mark other.now in
-        OnOk result (listing.new
-        ≡ kept_with (difference_at at a.place b.place (changed a b)) listing.old) }
+    ensures { OnOk result (listing.new
+        ≡ kept_all (pair_told within at (made_mark one.now) (made_mark other.now)) listing.old) }
 {
+    if is_near(&one.mark, &other.mark, within) {
+        return Ok(());
+    }
     let change = changed(one, other);
     listing.tell(at.difference(one.place, other.place, change))
 }

@@ -10,6 +10,7 @@ mod bag;
 mod compare;
 mod differences;
 mod edges;
+mod footprint;
 mod in_order;
 mod laws;
 mod listing;

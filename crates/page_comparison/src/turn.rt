@@ -1,7 +1,7 @@
 //! How two pages go on together, in their order.
 
 ghost use Rattle.std.specs.Prelude.{◌≡◌, ◌<◌, ◌≤◌, ◌∷◌, IfSome, IsTrue, find, length};
-ghost use Rattle.std.specs.Prelude.{slice_index_or, true};
+ghost use Rattle.std.specs.Prelude.{slice_index_or, true, unwrap_or};
 ghost use Rattle.std.specs.Prelude.{if◌then◌else◌};
 ghost use Rattle.page_comparison.specs.InOrder.{
   go_alike,
@@ -10,6 +10,8 @@ ghost use Rattle.page_comparison.specs.InOrder.{
   leavings,
   nearest,
   next_near,
+  run_of,
+  runs,
   splits,
   turn_of,
 };
@@ -20,8 +22,10 @@ use crate::nearness::is_near;
 use crate::page::PlacedMark;
 use std::alloc::Allocator;
 
-/// At most so many marks are left out together before both pages go on alike.
+/// At most so many marks of both pages are left out together before both go on alike.
 const MOST_LEFT_OUT: usize = 64;
+/// So many lengths of runs of one page alone are tried behind these.
+const RUNS: usize = 4032;
 
 /// So many marks of both pages that come next are the same, or are left out.
 #[derive(Clone, Copy)]
@@ -114,8 +118,67 @@ fn nearest<A: Allocator>(old: &[PlacedMark<A>], new: &[PlacedMark<A>], within: u
 {
     match first_resumed(old, new, within, MOST_LEFT_OUT) {
         Some(turn) => turn,
+        None => nearest_run(old, new, within),
+    }
+}
+
+/// The nearest way that leaves out marks of one page alone, more than `MOST_LEFT_OUT`, or else the
+/// next two marks are a pair.
+fn nearest_run<A: Allocator>(old: &[PlacedMark<A>], new: &[PlacedMark<A>], within: u64) -> Turn
+    requires old { 0 < length old.now }
+    requires new { 0 < length new.now }
+    ensures turn { result ≡ unwrap_or
+        (find (is_resumed within (made_marks old.now) (made_marks new.now)) (runs 65 4032))
+        (leaving 1 1) }
+    ensures old { result.old ≤ length old.now }
+    ensures new { result.new ≤ length new.now }
+{
+    match first_run(old, new, within, RUNS) {
+        Some(turn) => turn,
         None => leaving(1, 1),
     }
+}
+
+/// The first of so many ways that leave out more than `MOST_LEFT_OUT` marks of one page alone.
+fn first_run<A: Allocator>(
+    old: &[PlacedMark<A>],
+    new: &[PlacedMark<A>],
+    within: u64,
+    most: usize,
+) -> Option<Turn>
+    requires { most < 10000 }
+    ensures found { result ≡ find (is_resumed within (made_marks old.now) (made_marks new.now))
+        (runs 65 most) }
+    ensures fits { IfSome result (λ turn.
+        (turn.old ≤ length old.now) × (turn.new ≤ length new.now)) }
+{
+    for before in 0..most {
+        let found = run_by(old, new, within, before + 65);
+        match found {
+            None => {}
+            Some(turn) => return Some(turn),
+        }
+    }
+    None
+}
+
+/// The first way to go on alike by so many marks of one page alone.
+fn run_by<A: Allocator>(
+    old: &[PlacedMark<A>],
+    new: &[PlacedMark<A>],
+    within: u64,
+    many: usize,
+) -> Option<Turn>
+    ensures found { result ≡ find (is_resumed within (made_marks old.now) (made_marks new.now))
+        (run_of many) }
+    ensures fits { IfSome result (λ turn.
+        (turn.old ≤ length old.now) × (turn.new ≤ length new.now)) }
+{
+    let turn = leaving(0, many);
+    if is_resumed(old, new, turn, within) {
+        return Some(turn);
+    }
+    last_way(old, new, within, many)
 }
 
 /// The first way to go on alike, by at most so many marks that are left out together.

@@ -8,7 +8,7 @@ use Rattle.compare_command.specs.Telling.{found_text}
 use Rattle.compare_command.proofs.command.compare_on_printers.Goals as goal
 
 pub tell_stop-requires-clause-error : goal.tell_stop-requires-clause-error
-tell_stop-requires-clause-error g c = c.in-Err.ensures.stopped
+tell_stop-requires-clause-error g c = c.in-Err.ensures.stopped.reads.is_error
 
 pub returns-in-Ok : goal.returns-in-Ok
 returns-in-Ok g c =
@@ -33,4 +33,5 @@ returns-in-Ok g c =
     )
 
 pub returns-in-Err : goal.returns-in-Err
-returns-in-Err g c = inr (c.tell_stop.ensures, refl)
+returns-in-Err g c =
+    inr ((c.in-Err.stop.which, c.in-Err.stop.error, c.in-Err.ensures.stopped, c.tell_stop.ensures), refl)

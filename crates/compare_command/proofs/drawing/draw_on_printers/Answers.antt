@@ -7,7 +7,7 @@ use Rattle.compare_command.specs.Drawing.{DrawsFound}
 use Rattle.compare_command.proofs.drawing.draw_on_printers.Goals as goal
 
 pub tell_stop-status-requires-clause-error : goal.tell_stop-status-requires-clause-error
-tell_stop-status-requires-clause-error g c = c.in-Err.ensures.stopped
+tell_stop-status-requires-clause-error g c = c.in-Err.ensures.stopped.reads.is_error
 
 pub returns-in-Ok : goal.returns-in-Ok
 returns-in-Ok g c =
@@ -37,4 +37,5 @@ returns-in-Ok g c =
     )
 
 pub returns-in-Err : goal.returns-in-Err
-returns-in-Err g c = inr (c.tell_stop-status.ensures, refl, refl, refl)
+returns-in-Err g c =
+    inr ((c.in-Err.stop.which, c.in-Err.stop.error, c.in-Err.ensures.stopped, c.tell_stop-status.ensures), refl, refl, refl)

@@ -4,7 +4,7 @@ use Rattle.std.proofs.lemmas.Result.{on_ok_weaker}
 use Rattle.comparison.proofs.Ends.{on_ok_always}
 use Rattle.page_comparison.specs.declared.differences.PageChange.TheVariants.{Covers}
 use Rattle.page_comparison.specs.declared.differences.PageDifference.{PageDifference}
-use Rattle.page_comparison.specs.declared.edges.Edges.{Edges}
+use Rattle.page_comparison.specs.declared.footprint.Footprint.{Footprint}
 use Rattle.page_comparison.specs.AnyOrder.{Matching, is_crossed, stand_at}
 use Rattle.page_comparison.specs.Kept.{kept_all}
 use Rattle.page_comparison.specs.Pages.{made_mark, made_marks}
@@ -21,7 +21,7 @@ returns-clause-told g c =
     difference_at (stand_at setting.page c.args.number (place + 1)) mark.place (next_place setting.new_end (drop place new)) Covers in
     let crossed =
     c.is_crossed-crossed.ensures
-    ∙ ap (λ (e : Edges). list_any (is_crossed place e) c.args.bag.now.earlier) c.edges_of-edges.ensures in
+    ∙ ap (λ (f : Footprint). list_any (is_crossed place f) c.args.bag.now.earlier) c.footprint_of-footprint.ensures in
     on_ok_always c.take.result
     (c.in_ok-tell_if_crossed.ensures
     ∙ ap (λ (t : Bool). kept_all (if t then told ∷ [] else []) c.args.listing.now) crossed)
@@ -29,10 +29,11 @@ returns-clause-told g c =
 pub returns-clause-matched : goal.returns-clause-matched
 returns-clause-matched g c =
     let bag = c.args.bag.now in
-    let matching : Edges → Matching =
-    λ e. record {
+    let matching : Footprint → Matching =
+    λ f. record {
       taken = slice_set bag.taken c.args.place true;
-      earlier = bag.earlier ++ record { new = c.args.place; edges = e } ∷ [];
+      earlier = bag.earlier ++ record { new = c.args.place; footprint = f } ∷ [];
     } in
     on_ok_weaker c.take.result
-    (λ (took : c.take.new.self ≡ matching c.edges_of-edges.result). took ∙ ap matching c.edges_of-edges.ensures) c.take.ensures
+    (λ (took : c.take.new.self ≡ matching c.footprint_of-footprint.result).
+    took ∙ ap matching c.footprint_of-footprint.ensures) c.take.ensures

@@ -4,4 +4,4 @@ use Rattle.page_comparison.specs.AnyOrder.{is_crossed}
 use Rattle.page_comparison.proofs.bag.is_crossed_by.Given as goal
 
 abbrev pub invariant-loop-matched : goal.invariant-loop-matched
-invariant-loop-matched l = list_any (is_crossed l.place l.edges) (take l.matched-index l.earlier) ≡ false
+invariant-loop-matched l = list_any (is_crossed l.place l.footprint) (take l.matched-index l.earlier) ≡ false

@@ -19,7 +19,7 @@ returns g c =
     (λ (told :
     c.tell_left_out.new.listing
     ≡ kept_all
-    (left_out old_place new_place c.args.at (made_marks (take c.args.turn.old c.args.old.now))
+    (left_out c.args.setting.now.within old_place new_place c.args.at (made_marks (take c.args.turn.old c.args.old.now))
     (made_marks (take c.args.turn.new c.args.new.now))) c.args.listing.now).
     turn_left c.args.setting.now c.args.at c.args.old.now c.args.new.now c.args.turn old_place new_place c.args.listing.now
     c.tell_left_out.new.listing c.if-turn.false c.next_place-old_place.ensures c.next_place-new_place.ensures told)

@@ -7,7 +7,7 @@ use Rattle.page_comparison.proofs.bag.Bag.is_crossed.Goals as goal
 pub returns-then-last : goal.returns-then-last
 returns-then-last g c =
     let place = c.args.place in
-    let edges = c.args.edges.now in
-    subst (λ (m : Matching). false ≡ list_any (is_crossed place edges) m.earlier) c.self.view_is
-    (none_crossed c.self.inside.beyond place edges c.self.inside.earlier.items
+    let footprint = c.args.footprint.now in
+    subst (λ (m : Matching). false ≡ list_any (is_crossed place footprint) m.earlier) c.self.view_is
+    (none_crossed c.self.inside.beyond place footprint c.self.inside.earlier.items
     c.if-last.true c.self.invariant.2)

@@ -15,5 +15,5 @@ invariant_of-self-2 g c =
       front.0,
       front.1,
       rw c.in_ok-push.ensures.items
-          (before_more l.beyond c.max-self-inside.result l.earlier.items c.args.place c.args.edges c.max-self-inside.ensures before.2),
+          (before_more l.beyond c.max-self-inside.result l.earlier.items c.args.place c.args.footprint c.max-self-inside.ensures before.2),
     )
