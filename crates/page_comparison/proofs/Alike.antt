@@ -187,7 +187,7 @@ runs_leave many (suc times) some =
     let of_new : 0 < 0 + many = omega (arith, some) in
     let of_old : 0 < many + 0 = omega (arith, some) in
     let more : 0 < many + 1 = omega arith in
-    (record { differs = refl; some = of_new }, record { differs = refl; some = of_old }, runs_leave (many + 1) times more)
+    (record { differs = refl; some = of_new }, (record { differs = refl; some = of_old }, runs_leave (many + 1) times more))
 
 ways_leave : AllByRecursion IsLeaving ways
 unfolding ways
