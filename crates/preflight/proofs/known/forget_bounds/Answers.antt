@@ -1,6 +1,9 @@
-use Rattle.std.proofs.Common.{◌∙◌, sym}
+use Rattle.std.proofs.Common.{◌≡◌, true, rules}
+use Rattle.std.specs.Prelude.{is_none}
 use Rattle.preflight.proofs.FormsInStep.{none_of}
 use Rattle.preflight.proofs.known.forget_bounds.Goals as goal
 
 pub returns-then-is_none : goal.returns-then-is_none
-returns-then-is_none c = none_of c.args.known.now (sym c.is_none.ensures ∙ c.if-is_none.true)
+returns-then-is_none c =
+    let none : is_none c.args.known.now ≡ true = search rules in
+    none_of c.args.known.now none
