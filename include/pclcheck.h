@@ -65,8 +65,9 @@ struct pclcheck_panel_value {
     uint32_t value;   /* the VMI in ten-thousandths of 1/48 inch; else as its command numbers it */
 };
 
-/* A fleet of printers, or none: zero bytes are none. The caller changes nothing in it, and copies
- * it only to leave the first one unused. */
+/* A fleet of printers, or none: zero bytes are none. Every call but pclcheck_fleet_new() needs a
+ * fleet: of none it may end the program, so it is freed once. The caller changes nothing in it, and
+ * copies it only to leave the first one unused. */
 struct pclcheck_fleet {
     void *at;
 };

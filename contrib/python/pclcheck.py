@@ -157,6 +157,10 @@ class _PanelValue(ctypes.Structure):
     _fields_ = [("field", ctypes.c_uint32), ("value", ctypes.c_uint32)]
 
 
+# Numbers of printers and of pages are below it.
+_BEHIND_NUMBERS = 2 ** 64
+# How names have bytes that are no UTF-8, as os.fsdecode has them.
+_OTHER_BYTES = "surrogateescape"
 _BYTES = (ctypes.c_char_p, ctypes.c_size_t)
 _TEXT = (ctypes.POINTER(ctypes.c_char), ctypes.c_size_t, ctypes.POINTER(ctypes.c_size_t))
 _OF_FLEET = ctypes.POINTER(_Fleet)
@@ -241,8 +245,8 @@ def _text(name: str, *words: Any, refusal: Optional[_Refusal] = None) -> bytes:
 
 
 def _bytes(data: bytes) -> tuple[bytes, int]:
-    """The two words that stand for bytes; what is like bytes is copied."""
-    kept = bytes(data)
+    """The two words that stand for bytes; what is like bytes is copied, and nothing else taken."""
+    kept = bytes(memoryview(data))
     return kept, len(kept)
 
 
@@ -291,14 +295,19 @@ class Fleet:
     def check(self, job: bytes, name: str = "job", printer: int = 0) -> Verdict:
         """The verdict on a job for all printers, or for the one of this number, from 1, alone. The
         sentence has this name of the job."""
+        if not 0 <= printer < _BEHIND_NUMBERS:
+            raise IndexError(f"the fleet has no printer {printer}")
         told = _Verdict()
         with self._lock:
-            text = _text("pclcheck_tell", self._open(), printer, *_bytes(name.encode()),
-                         *_bytes(job), ctypes.byref(told))
-        return told.told(text.decode().rstrip("\n"))
+            text = _text("pclcheck_tell", self._open(), printer,
+                         *_bytes(name.encode(errors=_OTHER_BYTES)), *_bytes(job),
+                         ctypes.byref(told))
+        return told.told(text.decode(errors=_OTHER_BYTES).rstrip("\n"))
 
     def check_each(self, job: bytes, name: str = "job") -> list[Verdict]:
-        """The verdict for each printer alone."""
+        """The verdict for each printer alone. Raises IndexError where there is none."""
+        if not len(self):
+            raise IndexError("the fleet has no printer")
         return [self.check(job, name, number + 1) for number in range(len(self))]
 
     def session(self, printer: int = 0) -> Session:
@@ -409,7 +418,7 @@ def explain(code: Union[int, str] = "") -> str:
 
 def printer_name(profile: bytes) -> str:
     """The name that the text of a profile gives its printer, or nothing."""
-    return _text("pclcheck_printer_name", *_bytes(profile)).decode()
+    return _text("pclcheck_printer_name", *_bytes(profile)).decode(errors=_OTHER_BYTES)
 
 
 def list_items(job: bytes) -> JobText:
@@ -446,7 +455,7 @@ def _on_printer(name: str, job: bytes, profile: bytes) -> JobText:
 def picture(job: bytes, profile: bytes, page: Optional[int] = 1, name: str = "job") -> str:
     """The picture of a page on the printer of a profile, as SVG, or without a page all of them in a
     document of HTML. Raises NoPage."""
-    if page is not None and page < 1:
+    if page is not None and not 1 <= page < _BEHIND_NUMBERS:
         raise ValueError("pages count from 1")
     refusal = _Refusal()
     return _text("pclcheck_picture", *_bytes(profile), *_bytes(name.encode()), page or 0,

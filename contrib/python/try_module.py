@@ -61,7 +61,12 @@ def try_errors(folder: Path, fleet: pclcheck.Fleet) -> None:
     assert raised(lambda: pclcheck.explain("no such thing")) == "Unknown"
     assert raised(lambda: pclcheck.pin(job, profile, {"size": 999})) == "PanelRefused"
     assert raised(lambda: pclcheck.pin(job, profile, {"paper": 2})) == "PanelRefused"
-    assert raised(pclcheck.Fleet().check_each) == "TypeError"
+    assert raised(lambda: pclcheck.Fleet().check_each(job)) == "IndexError"
+    assert raised(lambda: fleet.check(job, printer=2 ** 64)) == "IndexError"
+    assert raised(lambda: pclcheck.picture(job, profile, 2 ** 64)) == "ValueError"
+    for other in (folder / "letter.pcl", "letter.pcl", 3):
+        assert raised(lambda: fleet.check(other)) == "TypeError", other
+    assert fleet.check(job, "\udce9.pcl").sentence
     assert raised(lambda: pclcheck.Fleet().check(job)) == "IndexError"
     pinned = pclcheck.pin(job, profile, {"vmi": Fraction(8)})
     assert pinned.verdict and pinned.text
