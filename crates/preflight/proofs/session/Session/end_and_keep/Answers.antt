@@ -6,9 +6,3 @@ returns-in-Ok-clause-ended g c = λ fleet bytes checked.
 
 pub returns-in-Ok-clause-over : goal.returns-in-Ok-clause-over
 returns-in-Ok-clause-over g c = tt
-
-pub returns-clause-ended : goal.returns-clause-ended
-returns-clause-ended g c = λ fleet bytes checked. tt
-
-pub returns-clause-over : goal.returns-clause-over
-returns-clause-over g c = tt
