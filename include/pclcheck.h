@@ -48,6 +48,7 @@ struct pclcheck_verdict {
     uint64_t marks;   /* of a job that passes a check the number of its marks; 0 of any other */
     uint64_t place;   /* where the job fails, in bytes from its start */
     uint64_t printer; /* the number of the printer that it fails for, from 1; 0 for its bytes */
+    uint64_t page;    /* of a job that fails a check the page, from 1; 0 of any other */
     uint32_t number;  /* of the fault or finding by which it fails; 0 where it does not */
 };
 

@@ -102,14 +102,16 @@ class Verdict:
     """What came of a job; it is true where nothing is wrong.
 
     Where the job fails, `place` counts the bytes before the failure, `printer` the printers of the
-    fleet from 1, and is 0 where the bytes themselves are wrong, and `number` is that of the fault
-    or finding, of which `explain` tells more. `sentence` is what a check says of the job.
+    fleet from 1, and is 0 where the bytes themselves are wrong, `page` is the page that is open
+    there, of which `picture` makes a drawing, and `number` is that of the fault or finding, of
+    which `explain` tells more. `sentence` is what a check says of the job.
     """
 
     pages: int
     marks: int
     place: int
     printer: int
+    page: int
     number: int
     sentence: str = ""
 
@@ -123,7 +125,7 @@ class Verdict:
 
 class JobText(NamedTuple):
     """What is written of a job, and by what it ends too early; that of a verdict which passes says
-    that it was gone through to its end, and has no counts."""
+    that it was gone through to its end. It has no counts and no page."""
 
     text: bytes
     verdict: Verdict
@@ -142,10 +144,11 @@ class _Session(ctypes.Structure):
 class _Verdict(ctypes.Structure):
     _fields_ = [("pages", ctypes.c_uint64), ("marks", ctypes.c_uint64),
                 ("place", ctypes.c_uint64), ("printer", ctypes.c_uint64),
-                ("number", ctypes.c_uint32)]
+                ("page", ctypes.c_uint64), ("number", ctypes.c_uint32)]
 
     def told(self, sentence: str = "") -> Verdict:
-        return Verdict(self.pages, self.marks, self.place, self.printer, self.number, sentence)
+        return Verdict(self.pages, self.marks, self.place, self.printer, self.page, self.number,
+                       sentence)
 
 
 class _Refusal(ctypes.Structure):
