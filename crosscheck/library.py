@@ -193,6 +193,7 @@ def texts_due(program: Program) -> Dict[str, Tuple[int, Optional[Tuple[int, ...]
     due = {"check": (DONE, check, b""),
            "version": (DONE, None, program.run("--version").output.split()[1]),
            "explain": (DONE, None, program.run("explain", "12").output),
+           "faults": (DONE, None, program.run("profile", "lint", "job").output),
            "tell": (DONE, check, program.sentence()),
            "tell-first": (DONE, program.verdict(first), each[0]),
            "tell-last": (DONE, program.verdict(program.printers[-1]), each[-1]),

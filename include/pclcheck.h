@@ -100,6 +100,14 @@ uint32_t pclcheck_explain(const uint8_t *code, size_t code_length, uint8_t *text
 uint32_t pclcheck_printer_name(const uint8_t *profile, size_t profile_length, uint8_t *text,
                                size_t room, size_t *needed);
 
+/* Puts all that is wrong with the text of a profile, as `pclcheck profile lint` writes it: a line
+ * for each fault, with its line in the text and the rule in words. The lines begin with this name
+ * of the text. Of a profile there is nothing wrong, and nothing is put.
+ *
+ * Answers: DONE, ROOM, MEMORY. */
+uint32_t pclcheck_faults(const uint8_t *name, size_t name_length, const uint8_t *profile,
+                         size_t profile_length, uint8_t *text, size_t room, size_t *needed);
+
 /* ---- fleets */
 
 /* Makes a fleet of no printer, in place of none: *fleet is of zero bytes, or was freed.

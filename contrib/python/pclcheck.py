@@ -73,7 +73,7 @@ class ProfileRefused(Error):
     """The text of a profile is refused.
 
     `number` counts the profiles of a fleet from 1, and `line` the lines of the text, where 0 is
-    the text as a whole.
+    the text as a whole. `profile_faults` tells in words what is wrong.
     """
 
     def __init__(self, number: int, line: int, cause: Cause) -> None:
@@ -176,6 +176,7 @@ _CALLS: dict[str, tuple[Any, ...]] = {
     "pclcheck_version": _TEXT,
     "pclcheck_explain": (*_BYTES, *_TEXT),
     "pclcheck_printer_name": (*_BYTES, *_TEXT),
+    "pclcheck_faults": (*_BYTES, *_BYTES, *_TEXT),
     "pclcheck_fleet_new": (_OF_FLEET,),
     "pclcheck_fleet_limit": (_OF_FLEET, ctypes.c_uint64),
     "pclcheck_fleet_add": (_OF_FLEET, *_BYTES, _OF_REFUSAL),
@@ -422,6 +423,13 @@ def explain(code: Union[int, str] = "") -> str:
 def printer_name(profile: bytes) -> str:
     """The name that the text of a profile gives its printer, or nothing."""
     return _text("pclcheck_printer_name", *_bytes(profile)).decode(errors=_OTHER_BYTES)
+
+
+def profile_faults(profile: bytes, name: str = "profile") -> str:
+    """All that is wrong with the text of a profile, a line for each fault, which begins with this
+    name of the text; nothing where it describes a printer."""
+    return _text("pclcheck_faults", *_bytes(name.encode(errors=_OTHER_BYTES)),
+                 *_bytes(profile)).decode(errors=_OTHER_BYTES)
 
 
 def list_items(job: bytes) -> JobText:
