@@ -51,7 +51,7 @@ pub(crate) fn leave(answer: Result<Judgement, Error>, row: &mut VerdictRow) -> u
 {
     match answer {
         Ok(judgement) => {
-            *row = verdict_row(judgement.verdict);
+            *row = verdict_row(judgement.verdict, judgement.page);
             DONE
         }
         Err(error) => error_number(error),
@@ -101,7 +101,8 @@ fn told_of(
     name: &[u8],
     judgement: Judgement,
 ) -> Result<Told, Why>
-    ensures row { IfOk result (λ told. told.row ≡ verdict_row judgement.verdict) }
+    ensures row { IfOk result (λ told. told.row
+        ≡ verdict_row judgement.verdict judgement.page) }
     ensures text { IfOk result (λ told. told.text.items
         ≡ job_sentence (reported group.now name.now (Ok judgement) None)) }
     ensures stops { IfErr result IsStop }
@@ -115,7 +116,7 @@ fn told_of(
     let mut text = Vec::new(alloc);
     match push_job_sentence(alloc, &mut text, &report) {
         Ok(()) => Ok(Told {
-            row: verdict_row(judgement.verdict),
+            row: verdict_row(judgement.verdict, judgement.page),
             text,
         }),
         Err(error) => Err(Why::from(error)),

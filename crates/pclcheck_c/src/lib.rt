@@ -19,6 +19,7 @@
 ghost use Rattle.std.specs.Prelude.{◌≡◌, length, map, None, IfSome, IsSome};
 ghost use Rattle.command_names.specs.CommandNames.{table};
 ghost use Rattle.device_profile.specs.Name.{printer_name};
+ghost use Rattle.profile_lint.specs.Lint.{faults_text};
 ghost use Rattle.renderings.specs.Expected.{list_rendering, plain_rendering};
 ghost use Rattle.pclcheck_c.specs.Answers.{IsHanded, IsStop, IsWhyOf, Tells, filled, refusal_by};
 ghost use Rattle.pclcheck_c.specs.Answers.{room_number, row_by};
@@ -41,6 +42,7 @@ mod one_text;
 mod panel_values;
 mod parts;
 mod printer_texts;
+mod profile_faults;
 mod room;
 mod rows;
 mod session_handle;
@@ -52,6 +54,7 @@ use crate::drawing::drawn;
 use crate::explaining::explained;
 use crate::job_texts::{list, plain};
 use crate::printer_texts::{noted, paged, pinned};
+use crate::profile_faults::faults;
 use crate::session_handle::begin;
 use crate::told::{hand_out, leave_refusal, leave_row};
 use device_profile::printer_name;
@@ -111,6 +114,25 @@ pub extern "C" fn pclcheck_printer_name(profile: &[u8], text: &mut [u8], needed:
     ensures needed { needed.new ≡ length (printer_name profile.now) }
 {
     room::put(printer_name(profile), text, needed)
+}
+
+/// Puts all that is wrong with the text of a profile, as `pclcheck profile lint` writes it: a line
+/// for each fault, with its line in the text and the rule in words. The lines begin with this name
+/// of the text. Of a profile there is nothing wrong, and nothing is put.
+///
+/// The answer is `DONE`, `ROOM` or `MEMORY`.
+#[unsafe(no_mangle)]
+pub extern "C" fn pclcheck_faults(
+    alloc: Global,
+    name: &[u8],
+    profile: &[u8],
+    text: &mut [u8],
+    needed: &mut usize,
+) -> u32
+    ensures { Tells (λ told. told.text.items ≡ faults_text name.now profile.now) IsStop
+        (λ told. IsHanded told result text.old text.new needed.old needed.new) }
+{
+    hand_out(&faults(alloc, name, profile), text, needed)
 }
 
 // ---- fleets
