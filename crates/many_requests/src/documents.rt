@@ -1,7 +1,6 @@
 //! The documents of jobs that are checked, each a file in a folder.
-ghost use Rattle.std.specs.Prelude.{◌≡◌, ◌<◌, ◌⊎◌, ◌&&◌, ◌∷◌, ◌++◌, [], IfNone, IfOk, IfSome};
-ghost use Rattle.std.specs.Prelude.{IsFalse, List, length, ℕ};
-ghost use Rattle.std.specs.Prelude.{MatchOption, None, OnOk, Some, map, option_map};
+ghost use Rattle.std.specs.Prelude.{◌≡◌, ◌⊎◌, ◌&&◌, ◌++◌, IfNone, IfOk, IfSome, IsFalse, List, ℕ};
+ghost use Rattle.std.specs.Prelude.{None, OnOk, Some, map, option_map};
 ghost use Rattle.job_rows.specs.Links.{document_path};
 ghost use Rattle.many_jobs.specs.Asked.{asked_for};
 ghost use Rattle.many_jobs.specs.JobRow.{document_in};
@@ -53,12 +52,10 @@ pub(crate) fn refuse_names<E: Outlet>(
 fn same_named<'n>(jobs: &[&'n [u8]]) -> Option<&'n [u8]>
     ensures { option_map (λ job. job.now) result ≡ same_named (map (λ job. job.now) jobs.now) }
 {
-    let mut rest = jobs;
-    while let Some((job, behind)) = cut_job(rest) {
-        if is_taken(job, behind) {
-            return Some(job);
+    for (at, job) in jobs.iter().enumerate() {
+        if is_taken(job, &jobs[at + 1..]) {
+            return Some(*job);
         }
-        rest = behind;
     }
     None
 }
@@ -76,18 +73,6 @@ fn ends_in_pdf(job: &[u8]) -> bool
     ensures { result ≡ ends_in_pdf job.now }
 {
     job.ends_with(b".pdf")
-}
-
-/// The first job, and those behind it.
-fn cut_job<'j, 'n>(jobs: &'j [&'n [u8]]) -> Option<(&'n [u8], &'j [&'n [u8]])>
-    ensures cut { MatchOption result (jobs.now ≡ [])
-        (λ cut. jobs.now ≡ cut.0 ∷ cut.1.now) }
-    ensures shorter { IfSome result (λ cut. length cut.1.now < length jobs.now) }
-{
-    match jobs {
-        [] => None,
-        [job, behind @ ..] => Some((*job, behind)),
-    }
 }
 
 /// Whether one of the jobs has this name.
