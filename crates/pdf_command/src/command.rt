@@ -110,7 +110,7 @@ pub fn pdf<
         })
         (((F.state first.new).failed || (S.state job.new).failed) || T.failed texts.new)
         ((W.state out.new).failed || (O.state stdout.new).failed) }
-    ensures first { JudgesFirst {Job = F × S} result.status
+    ensures first { JudgesFirst result.status
         (T.text_of texts.old asked.now.setting.profile.now)
         (T.given texts.old) (T.given texts.new) (T.failed texts.new)
         job.old job.new }
