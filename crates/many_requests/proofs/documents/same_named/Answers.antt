@@ -1,4 +1,5 @@
-use Rattle.std.proofs.Common.{◌≡◌, ◌∙◌, ◌+◌, ◌-◌, ◌<◌, Bool, List, None, Some, ap, arith, drop, false, get_or, if◌then◌else◌, length, map, sym}
+use Rattle.std.proofs.Common.{◌≡◌, ◌∙◌, ◌+◌, ◌-◌, ◌<◌, Bool, List, None, Some}
+use Rattle.std.proofs.Common.{ap, arith, drop, false, get_or, if◌then◌else◌, length, map, sym}
 use Rattle.std.proofs.Common.{take, true, ℕ}
 use Rattle.std.proofs.lemmas.List.{drop_all, drop_more, take_rest}
 use Rattle.many_requests.specs.Documents.{is_taken, same_named}
