@@ -3,13 +3,14 @@ use Rattle.std.proofs.Common.{◌≡◌, ℕ, false, unwrap_or, List, [], ◌++�
 use Rattle.pcl_items.specs.declared.item.Mode.{Mode}
 use Rattle.pcl_items.specs.Modes.{follows}
 use Rattle.pcl_items.specs.Items.{Placed}
+use Rattle.pcl_lexer.specs.Lexing.State.{LexerState}
 use Rattle.pcl_lexer.specs.Reading.{Reading, Whole, Stopped, with_item}
 use Rattle.device_profile.specs.declared.panel.Panel.{Panel}
 use Rattle.device_profile.specs.Printer.{Printer}
 use Rattle.page_env.specs.declared.finding.Finding.{Finding}
 use Rattle.page_env.specs.Settings.{Settings, State, settings_at, state_at, start_state, user_defaults, unwatched}
 use Rattle.page_machine.specs.declared.machine.Start.TheVariants.{At}
-use Rattle.page_machine.specs.Event.{Event}
+use Rattle.page_machine.specs.Event.{Event, TakesAll}
 use Rattle.page_machine.specs.Follows.{TakesUpTo}
 use Rattle.page_machine.specs.Job.{ItemRun, JobRun, after_item, at_end, plain_run, reading_run}
 use Rattle.page_machine.specs.Machine.{IsNew, item_of, end_of as end_carried}
@@ -19,9 +20,11 @@ use Rattle.sinks.proofs.Recording.{TakesAll-recorded, recorder_takes}
 use Rattle.sinks.specs.Recorder.{Recorded}
 use Rattle.verdict.specs.declared.failure.Failure.{Failure}
 use Rattle.verdict.specs.Failing.{found_at}
-use Rattle.comparison.specs.declared.stepping.Stepped.TheVariants.{On, AtEnd, FailsBy}
+use Rattle.comparison.specs.declared.stepping.Stepped.{Stepped}
+use Rattle.comparison.specs.declared.stepping.Stepped.TheVariants.{On, More, AtEnd, FailsBy, Refused}
 use Rattle.comparison.specs.Comparison.{made_at, all_made, failure_on, failure_or, fault_of}
-use Rattle.comparison.specs.Running.{CarriedTo, EndsTo, any_panel, rest_items}
+use Rattle.comparison.specs.Running.{CarriedTo, CarriesTo, ComesBy, EndsBy, EndsTo, LeavesOff, StepsBy, TakenBy, any_panel}
+use Rattle.comparison.specs.Running.{rest_items}
 
 same_fault : (x : Placed) (rest : Reading) → fault_of (with_item x rest) ≡ fault_of rest
 same_fault x (Whole items place) = refl
@@ -117,48 +120,83 @@ module _ (number : ℕ) (machine : MachineState) where
   end_failing total finding events made peaks run =
       failure_found number total ((end_carried machine).run any_panel) at_end None events peaks finding run
 
--- ---- what a recorder has of it
+-- ---- what a sink took of it
+
+module _ {S : Type 0} (takes : S → Event → S → Type 0) (number : ℕ) (machine : MachineState) (sink sink' : S) where
+  pub tells_item : (machine' : MachineState) (x : Placed) (next : Mode) → follows machine.mode x.item ≡ Some next
+      → machine'
+      ≡ record machine {
+        page = machine'.page;
+        macros = (item_of machine x.item).macros;
+        mode = (item_of machine x.item).mode;
+        stopped = false;
+      }
+      → TakesUpTo takes sink sink' (item_of machine x.item).run (λ panel. just [] (Done (state_at panel machine'.page)))
+      → CarriesTo takes (On x.place) number x machine machine' sink sink'
+  tells_item machine' x next admitted is took = record {
+    events = took.events;
+    taken = took.leads;
+    carried = item_carried number machine x machine' took.events (took.peaks any_panel) next is admitted (took.is any_panel);
+  }
+
+  pub tells_finding : (machine' : MachineState) (x : Placed) (finding : Finding) →
+      TakesUpTo takes sink sink' (item_of machine x.item).run (λ panel. just [] (Halts finding)) →
+      CarriesTo takes (FailsBy (found_at x.place number finding)) number x machine machine' sink sink'
+  tells_finding machine' x finding took = record {
+    events = took.events;
+    taken = took.leads;
+    carried =
+        item_failing number machine x machine' finding took.events took.events (took.peaks any_panel) (took.is any_panel);
+  }
+
+  pub tells_end : (total : ℕ) (s : Panel → State) →
+      TakesUpTo takes sink sink' (end_carried machine).run (λ panel. just [] (Done (s panel))) →
+      EndsBy takes AtEnd number total machine sink sink'
+  tells_end total s took = record {
+    events = took.events;
+    taken = took.leads;
+    ends = end_done number machine total (s any_panel) took.events (took.peaks any_panel) (took.is any_panel);
+  }
+
+  pub tells_end_finding : (total : ℕ) (finding : Finding) →
+      TakesUpTo takes sink sink' (end_carried machine).run (λ panel. just [] (Halts finding)) →
+      EndsBy takes (FailsBy (found_at total number finding)) number total machine sink sink'
+  tells_end_finding total finding took = record {
+    events = took.events;
+    taken = took.leads;
+    ends = end_failing number machine total finding took.events took.events (took.peaks any_panel) (took.is any_panel);
+  }
 
 -- an empty recorder has what it took
-pub took_all : (old new : Recorded) (run rest : Panel → Run) → old.events ≡ [] → (took : TakesUpTo recorder_takes old new run rest) →
-    new.events ≡ took.events
-took_all old new run rest empty took =
-    ap (λ (r : Recorded). r.events) (TakesAll-recorded old new took.events took.leads)
-    ∙ ap (λ front. front ++ took.events) empty
+took_all : (old new : Recorded) (events : List Event) → old.events ≡ [] → TakesAll recorder_takes old events new → new.events ≡ events
+took_all old new events empty took =
+    ap (λ (r : Recorded). r.events) (TakesAll-recorded old new events took)
+    ∙ ap (λ front. front ++ events) empty
 
-pub tells_item : (number : ℕ) (machine machine' : MachineState) (old new : Recorded) (x : Placed) (next : Mode) → old.events ≡ []
-    → follows machine.mode x.item ≡ Some next
-    → machine'
-    ≡ record machine {
-      page = machine'.page;
-      macros = (item_of machine x.item).macros;
-      mode = (item_of machine x.item).mode;
-      stopped = false;
-    }
-    → TakesUpTo recorder_takes old new (item_of machine x.item).run (λ panel. just [] (Done (state_at panel machine'.page)))
-    → CarriedTo (On x.place) number x machine machine' new.events
-tells_item number machine machine' old new x next empty admitted is took =
-    subst (CarriedTo (On x.place) number x machine machine') (sym (took_all old new _ _ empty took))
-    (item_carried number machine x machine' took.events (took.peaks any_panel) next is admitted (took.is any_panel))
+-- so what holds of these events holds of what it has
+as_recorded : (P : Stepped → List Event → Type 0) → ((events : List Event) → P Refused events) → (old new : Recorded)
+    (events : List Event) → old.events ≡ [] → (stepped : Stepped) → TakenBy recorder_takes stepped old events new → P stepped events →
+    P stepped new.events
+as_recorded P refused old new events empty (On place) took h = subst (P (On place)) (sym (took_all old new events empty took)) h
+as_recorded P refused old new events empty More took h = subst (P More) (sym (took_all old new events empty took)) h
+as_recorded P refused old new events empty AtEnd took h = subst (P AtEnd) (sym (took_all old new events empty took)) h
+as_recorded P refused old new events empty (FailsBy failure) took h =
+    subst (P (FailsBy failure)) (sym (took_all old new events empty took)) h
+as_recorded P refused old new events empty Refused took h = refused new.events
 
-pub tells_finding : (number : ℕ) (machine machine' : MachineState) (old new : Recorded) (x : Placed) (finding : Finding)
-    → TakesUpTo recorder_takes old new (item_of machine x.item).run (λ panel. just [] (Halts finding))
-    → CarriedTo (FailsBy (found_at x.place number finding)) number x machine machine' new.events
-tells_finding number machine machine' old new x finding took =
-    item_failing number machine x machine' finding took.events new.events (took.peaks any_panel) (took.is any_panel)
+-- so came a step with it
+module _ (number total : ℕ) (lexer : LexerState) (machine : MachineState) (stepped : Stepped) (lexer' : LexerState)
+    (machine' : MachineState) (old new : Recorded) (empty : old.events ≡ [])
+    (steps : StepsBy recorder_takes number total lexer machine stepped lexer' machine' old new) where
+  pub came_recorded : ComesBy number total lexer machine stepped lexer' machine' new.events
+  came_recorded =
+      as_recorded (λ s events. ComesBy number total lexer machine s lexer' machine' events)
+      (λ events printer panel bytes made total_is under. tt) old new steps.events empty stepped steps.taken steps.came
 
-pub tells_end : (number total : ℕ) (machine : MachineState) (old new : Recorded) (s : Panel → State) → old.events ≡ []
-    → TakesUpTo recorder_takes old new (end_carried machine).run (λ panel. just [] (Done (s panel)))
-    → EndsTo AtEnd number total machine new.events
-tells_end number total machine old new s empty took =
-    subst (EndsTo AtEnd number total machine) (sym (took_all old new _ _ empty took))
-    (end_done number machine total (s any_panel) took.events (took.peaks any_panel) (took.is any_panel))
-
-pub tells_end_finding : (number total : ℕ) (machine : MachineState) (old new : Recorded) (finding : Finding)
-    → TakesUpTo recorder_takes old new (end_carried machine).run (λ panel. just [] (Halts finding))
-    → EndsTo (FailsBy (found_at total number finding)) number total machine new.events
-tells_end_finding number total machine old new finding took =
-    end_failing number machine total finding took.events new.events (took.peaks any_panel) (took.is any_panel)
+  pub leaves_recorded : LeavesOff stepped lexer lexer' machine' new.events
+  leaves_recorded =
+      as_recorded (λ s events. LeavesOff s lexer lexer' machine' events) (λ events. tt) old new steps.events empty stepped steps.taken
+      steps.leaves
 
 -- ---- the start
 

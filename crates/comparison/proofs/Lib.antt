@@ -8,3 +8,4 @@ pub mod Sameness
 pub mod SoFar
 pub mod Steps
 pub mod SameLines
+pub mod Partings

@@ -1,6 +1,6 @@
 -- What a job has come to by a step, by a piece of its bytes and by their end.
 use Rattle.std.proofs.Common.{◌≡◌, ◌+◌, ◌-◌, ◌*◌, ◌<◌, ◌≤◌, ◌^◌, ℕ, true, false, List, [], ◌∷◌, ◌++◌, length, take, refl, ap, sym, ◌∙◌}
-use Rattle.std.proofs.Common.{subst, append-nil, append_assoc, length-append, arith}
+use Rattle.std.proofs.Common.{subst, append-nil, append_assoc, length-append, arith, Result, Ok, Err, OnOk}
 use Rattle.std.specs.Io.KnownBytes.{Consumes, IsAtEnd}
 use Rattle.std.proofs.lemmas.Bool.{false≢true}
 use Rattle.pcl_items.specs.Items.{Placed}
@@ -22,7 +22,7 @@ use Rattle.comparison.specs.declared.stepping.Stepped.{Stepped}
 use Rattle.comparison.specs.declared.stepping.Stepped.TheVariants.{On, More, AtEnd, FailsBy, Refused}
 use Rattle.comparison.specs.Comparison.{Made, made_at}
 use Rattle.comparison.specs.Running.{ComesBy, Gave, GoesBy, HasEnded, HasRun, IsUnderWay, IsWaiting, LeavesOff, MayMake, RunState}
-use Rattle.comparison.specs.Running.{RunsOn, StandsBy, TakesWork, is_open, last_made, last_step, place_after, progress_after, work}
+use Rattle.comparison.specs.Running.{RunsOn, StandsBy, TakesEnd, TakesPiece, TakesRead, TakesWork, is_open, last_made, last_step, place_after, progress_after, work}
 use Rattle.comparison.proofs.Given.{gave_end, gave_more, gave_none}
 use Rattle.comparison.proofs.Steps.{still_under_way, under_way_at_start}
 
@@ -108,23 +108,26 @@ module _ (old : RunState) (lexer : LexerState) (machine : MachineState) (events 
   still_gave : Gave first now lexer.ended h.bytes
   still_gave = subst (λ e. Gave first now e h.bytes) (sym ended) h.gave
 
-  advanced_by : (stepped : Stepped) → ComesBy old.number old.total old.lexer old.machine stepped lexer machine events →
-      LeavesOff stepped old.lexer lexer machine events →
-      GoesBy stepped printer panel first now made
-      (stepped_run old lexer machine events (place_after stepped old.place old.total) (progress_after stepped))
-  advanced_by (On place) came leaves = record {
+  -- it made the events behind what was made before, whichever of them are kept
+  pub went_on : (kept : List Event) (stepped : Stepped) → (stepped ≡ Refused → ⊥) →
+      ComesBy old.number old.total old.lexer old.machine stepped lexer machine events → LeavesOff stepped old.lexer lexer machine events →
+      HasRun printer panel first now (made ++ made_at (place_after stepped old.place old.total) events)
+      (stepped_run old lexer machine kept (place_after stepped old.place old.total) (progress_after stepped))
+  went_on kept (On place) known came leaves = record {
     bytes = h.bytes;
     gave = still_gave;
     total_is = h.total_is;
     stands = came printer panel h.bytes made h.total_is now_under_way;
   }
-  advanced_by More came leaves = record {
+  went_on kept More known came leaves = record {
     bytes = h.bytes;
     gave = still_gave;
     total_is = h.total_is;
-    stands = came printer panel h.bytes made h.total_is now_under_way;
+    stands =
+        subst (λ m. IsUnderWay printer panel old.number h.bytes m lexer machine)
+        (sym (ap (λ es. made ++ made_at old.place es) leaves.4 ∙ append-nil made)) (came printer panel h.bytes made h.total_is now_under_way);
   }
-  advanced_by AtEnd came leaves = record {
+  went_on kept AtEnd known came leaves = record {
     bytes = h.bytes;
     gave = still_gave;
     total_is = h.total_is;
@@ -134,12 +137,27 @@ module _ (old : RunState) (lexer : LexerState) (machine : MachineState) (events 
           (came printer panel h.bytes made h.total_is now_under_way),
     );
   }
-  advanced_by (FailsBy failure) came leaves = record {
+  went_on kept (FailsBy failure) known came leaves = record {
     bytes = h.bytes;
     gave = still_gave;
     total_is = h.total_is;
     stands = came printer panel h.bytes made h.total_is now_under_way;
   }
+  went_on kept Refused known came leaves = absurd (known refl)
+
+  advanced_by : (stepped : Stepped) → ComesBy old.number old.total old.lexer old.machine stepped lexer machine events →
+      LeavesOff stepped old.lexer lexer machine events →
+      GoesBy stepped printer panel first now made
+      (stepped_run old lexer machine events (place_after stepped old.place old.total) (progress_after stepped))
+  advanced_by (On place) came leaves = went_on events (On place) (λ e. absurd cc) came leaves
+  advanced_by More came leaves = record {
+    bytes = h.bytes;
+    gave = still_gave;
+    total_is = h.total_is;
+    stands = came printer panel h.bytes made h.total_is now_under_way;
+  }
+  advanced_by AtEnd came leaves = went_on events AtEnd (λ e. absurd cc) came leaves
+  advanced_by (FailsBy failure) came leaves = went_on events (FailsBy failure) (λ e. absurd cc) came leaves
   advanced_by Refused came leaves = tt
 
   pub advanced : (stepped : Stepped) (place : ℕ) (progress : Progress) → place ≡ place_after stepped old.place old.total →
@@ -163,22 +181,22 @@ no_more_on n o k l m new old less = omega arith
 less_over : (n o k l m : ℕ) → n ≡ 0 → o ≡ 1 → l ≤ m → n + l + k < o + m + k
 less_over n o k l m new old less = omega arith
 
-pub work_taken : (old : RunState) (lexer : LexerState) (machine : MachineState) (events : List Event) (place : ℕ) (progress : Progress) →
-    is_open old.progress ≡ true → (stepped : Stepped) → progress ≡ progress_after stepped →
-    LeavesOff stepped old.lexer lexer machine events → TakesWork stepped old (stepped_run old lexer machine events place progress)
-work_taken old lexer machine events place progress running (On there) is leaves =
+pub work_taken : (old : RunState) (lexer : LexerState) (machine : MachineState) (events kept : List Event) (place : ℕ)
+    (progress : Progress) → is_open old.progress ≡ true → (stepped : Stepped) → progress ≡ progress_after stepped →
+    LeavesOff stepped old.lexer lexer machine events → TakesWork stepped old (stepped_run old lexer machine kept place progress)
+work_taken old lexer machine events kept place progress running (On there) is leaves =
     less_on (last_step progress) (last_step old.progress) (8194 * (2 ^ 40 - old.reads)) (left lexer.context lexer.rest)
     (left old.lexer.context old.lexer.rest) (ap last_step is) (opened old.progress running) leaves.2
-work_taken old lexer machine events place progress running More is leaves =
+work_taken old lexer machine events kept place progress running More is leaves =
     no_more_on (last_step progress) (last_step old.progress) (8194 * (2 ^ 40 - old.reads)) (left lexer.context lexer.rest)
     (left old.lexer.context old.lexer.rest) (ap last_step is) (opened old.progress running) leaves.5
-work_taken old lexer machine events place progress running AtEnd is leaves =
+work_taken old lexer machine events kept place progress running AtEnd is leaves =
     less_over (last_step progress) (last_step old.progress) (8194 * (2 ^ 40 - old.reads)) (left lexer.context lexer.rest)
     (left old.lexer.context old.lexer.rest) (ap last_step is) (opened old.progress running) leaves.1
-work_taken old lexer machine events place progress running (FailsBy failure) is leaves =
+work_taken old lexer machine events kept place progress running (FailsBy failure) is leaves =
     less_over (last_step progress) (last_step old.progress) (8194 * (2 ^ 40 - old.reads)) (left lexer.context lexer.rest)
     (left old.lexer.context old.lexer.rest) (ap last_step is) (opened old.progress running) leaves
-work_taken old lexer machine events place progress running Refused is leaves = tt
+work_taken old lexer machine events kept place progress running Refused is leaves = tt
 
 -- where more bytes are wanted it waits for them
 pub waits_now : (old : RunState) (lexer : LexerState) (machine : MachineState) (events : List Event) (place : ℕ) (progress : Progress)
@@ -193,6 +211,14 @@ waits_now old lexer machine events place progress stepped progress_is leaves mor
       unended = waits.2;
       none = waits.4;
     }
+
+-- so where nothing of it is kept
+pub waits_counted : (old : RunState) (lexer : LexerState) (machine : MachineState) (events kept : List Event) (place : ℕ)
+    (progress : Progress) (stepped : Stepped) → progress ≡ progress_after stepped → LeavesOff stepped old.lexer lexer machine events →
+    kept ≡ [] → stepped ≡ More → IsWaiting (stepped_run old lexer machine kept place progress)
+waits_counted old lexer machine events kept place progress stepped progress_is leaves none more =
+    let waits = waits_now old lexer machine events place progress stepped progress_is leaves more in
+    record { running = waits.running; wants_more = waits.wants_more; unended = waits.unended; none = none }
 
 -- where the job is not over, lexer and machine stand in one mode
 pub runs_after : (stepped : Stepped) (old new : LexerState) (machine : MachineState) (events : List Event) →
@@ -362,3 +388,18 @@ pub ran_none : (now : SourceState) (run : RunState) (printer : Printer) (panel :
     (more : List Made) × HasRun printer panel from now (made ++ more) run × MayMake run more run.place
 ran_none now run printer panel from made h =
     ([], subst (λ m. HasRun printer panel from now m run) (sym (append-nil made)) h, λ over. (refl, refl))
+
+-- ---- what one read gave
+
+-- nothing, which is the end
+pub read_ended : (piece : List ℕ) (old new : RunState) → piece ≡ [] → TakesEnd old new → TakesRead piece old new
+read_ended piece old new none ends printer panel first mid now made h given consumed over =
+    ends printer panel first mid now made piece 0 refl h (given ∙ ap (λ p. mid.given ++ p ∷ []) none)
+    (subst (Consumes mid.remaining now.remaining) none consumed) (over none)
+
+-- a piece
+pub read_taken : {E : Type 0} (piece : List ℕ) (old new : RunState) (r : Result Unit E) → OnOk r (TakesPiece piece old new) →
+    OnOk r (TakesRead piece old new)
+read_taken piece old new (Ok done) takes = λ printer panel first mid now made h given consumed over.
+    takes printer panel first mid now made h given consumed
+read_taken piece old new (Err error) takes = tt

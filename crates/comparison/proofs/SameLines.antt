@@ -228,14 +228,14 @@ events_of_glyph : (place : ℕ) (events : List Event) (more : List Made) →
 events_of_glyph place [] more = refl
 events_of_glyph place (event ∷ events) more = ap (λ l. event ∷ l) (events_of_glyph place events more)
 
-events_of_text : (codes : List ℕ) (look : TextAppearance) (from : TextPlace) (place : ℕ) →
+pub events_of_text : (codes : List ℕ) (look : TextAppearance) (from : TextPlace) (place : ℕ) →
     events_made (text_made look from place codes) ≡ text_events look from codes
 events_of_text [] look from place = refl
 events_of_text (code ∷ codes) look from place =
     events_of_glyph place (glyph_events look from code) (text_made look (behind look code from) (place + 1) codes)
     ∙ ap (λ l. glyph_events look from code ++ l) (events_of_text codes look (behind look code from) (place + 1))
 
-marks_of_text : (codes : List ℕ) (look : TextAppearance) (from : TextPlace) →
+pub marks_of_text : (codes : List ℕ) (look : TextAppearance) (from : TextPlace) →
     map Marked (shapes_of look from codes) ≡ text_events look from codes
 marks_of_text [] look from = refl
 marks_of_text (code ∷ codes) look from =

@@ -210,16 +210,6 @@ front_all new_now new_now' spot spot' place f xs i old new over so_far printer p
 
 -- ---- a step of OLD
 
--- nothing was made
-pub alike_none : (printer : Printer) (panel : Panel) (old_first old_now new_first new_now : SourceState) (old : RunState) (spot : Spot)
-    (new : Following) → spot ≡ at_start → HasRun printer panel old_first old_now [] old →
-    HasFollowed printer panel new_first new_now [] new → GoAlike printer panel old_first old_now new_first new_now old spot new
-alike_none printer panel old_first old_now new_first new_now old spot new begun run followed = record {
-  old_made = [];
-  old_run = run;
-  level = record { new_taken = []; followed = followed; same = refl; spot_is = begun };
-}
-
 -- what its last item made
 pub made_last : (run : RunState) (place : ℕ) (events : List Event) → place ≡ run.place → events ≡ run.events →
     made_at place events ≡ last_made run

@@ -187,12 +187,12 @@ EndsCompare new_now new_now' old spot new new' found =
     GoAlike printer panel old_first old_now new_first new_now old spot new →
     HasCompared printer panel old_first old_now new_first new_now' old new'.run found
 
--- two jobs of which nothing was carried out before
-abbrev pub EventsCompare : (old_now old_now' new_now new_now' : SourceState) → (old old' : RunState) →
+-- two jobs that made the same before
+abbrev pub EventsCompare : (old_now old_now' new_now new_now' : SourceState) → (old old' : RunState) → Spot →
     (new new' : Following) → Comparison → Type 0
-EventsCompare old_now old_now' new_now new_now' old old' new new' found =
+EventsCompare old_now old_now' new_now new_now' old old' spot new new' found =
     (printer : Printer) (panel : Panel) (old_first new_first : SourceState) →
-    HasRun printer panel old_first old_now [] old → HasFollowed printer panel new_first new_now [] new →
+    GoAlike printer panel old_first old_now new_first new_now old spot new →
     HasCompared printer panel old_first old_now' new_first new_now' old' new'.run found
 
 -- what is right for every two jobs that may be by what was read of them

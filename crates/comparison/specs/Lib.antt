@@ -5,3 +5,4 @@ pub mod Comparing
 pub mod Laws
 pub mod Nearness
 pub mod Texts
+pub mod Together

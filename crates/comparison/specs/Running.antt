@@ -11,7 +11,7 @@ use Rattle.pcl_lexer.specs.Reading.{Reading, Whole, Stopped, IsReading, left, wi
 use Rattle.device_profile.specs.declared.panel.Panel.{Panel}
 use Rattle.device_profile.specs.Printer.{Printer}
 use Rattle.page_env.specs.Settings.{settings_at, state_at}
-use Rattle.page_machine.specs.Event.{Event}
+use Rattle.page_machine.specs.Event.{Event, TakesAll}
 use Rattle.page_machine.specs.Job.{ItemRun, plain_run, reading_run}
 use Rattle.page_machine.specs.MachineState.{MachineState}
 use Rattle.streams.specs.declared.error.Error.{Error}
@@ -217,6 +217,39 @@ LeavesOff AtEnd old new machine events =
 LeavesOff (FailsBy failure) old new machine events = left new.context new.rest ≤ left old.context old.rest
 LeavesOff Refused old new machine events = ⊤
 
+-- ---- what a sink took of it
+
+-- these events, unless memory was refused
+abbrev pub TakenBy : {S : Type 0} → (S → Event → S → Type 0) → Stepped → S → List Event → S → Type 0
+TakenBy takes (On place) sink events sink' = TakesAll takes sink events sink'
+TakenBy takes More sink events sink' = TakesAll takes sink events sink'
+TakenBy takes AtEnd sink events sink' = TakesAll takes sink events sink'
+TakenBy takes (FailsBy failure) sink events sink' = TakesAll takes sink events sink'
+TakenBy takes Refused sink events sink' = ⊤
+
+-- of an item
+pub record CarriesTo {S : Type 0} (takes : S → Event → S → Type 0) (stepped : Stepped) (number : ℕ) (x : Placed)
+    (old new : MachineState) (sink sink' : S) : Type 0 where
+  pub events : List Event
+  pub taken : TakenBy takes stepped sink events sink'
+  pub carried : CarriedTo stepped number x old new events
+
+-- of the end of the bytes
+pub record EndsBy {S : Type 0} (takes : S → Event → S → Type 0) (stepped : Stepped) (number total : ℕ)
+    (machine : MachineState) (sink sink' : S) : Type 0 where
+  pub events : List Event
+  pub taken : TakenBy takes stepped sink events sink'
+  pub ends : EndsTo stepped number total machine events
+
+-- of a step
+pub record StepsBy {S : Type 0} (takes : S → Event → S → Type 0) (number total : ℕ) (lexer : LexerState)
+    (machine : MachineState) (stepped : Stepped) (lexer' : LexerState) (machine' : MachineState) (sink sink' : S)
+    : Type 0 where
+  pub events : List Event
+  pub taken : TakenBy takes stepped sink events sink'
+  pub came : ComesBy number total lexer machine stepped lexer' machine' events
+  pub leaves : LeavesOff stepped lexer lexer' machine' events
+
 -- ---- all that was carried out
 
 -- of a job of which memory was refused nothing is known
@@ -259,6 +292,14 @@ TakesEnd old new =
     (printer : Printer) (panel : Panel) (first mid now : SourceState) (made : List Made) (buf : List ℕ) (n : ℕ) →
     n ≡ 0 → HasRun printer panel first mid made old → now.given ≡ mid.given ++ take n buf ∷ [] →
     Consumes mid.remaining now.remaining (take n buf) → IsAtEnd now.remaining →
+    HasRun printer panel first now made new
+
+-- what one read gave was fed, where nothing is the end
+abbrev pub TakesRead : List ℕ → RunState → RunState → Type 0
+TakesRead piece old new =
+    (printer : Printer) (panel : Panel) (first mid now : SourceState) (made : List Made) →
+    HasRun printer panel first mid made old → now.given ≡ mid.given ++ piece ∷ [] →
+    Consumes mid.remaining now.remaining piece → (piece ≡ [] → IsAtEnd now.remaining) →
     HasRun printer panel first now made new
 
 -- a job went on while its source went from the one state to the other: by its last item

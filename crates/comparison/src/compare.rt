@@ -14,6 +14,7 @@ use crate::difference::{Comparison, Difference, Spot};
 use crate::follower::Follower;
 use crate::running_job::RunningJob;
 use crate::texts::pass_same_lines;
+use crate::together::go_together;
 use device_profile::Profile;
 use pcl_items::Place;
 use pcl_lexer::one_reading;
@@ -41,7 +42,8 @@ pub struct Unread {
 /// lists: whether they print the same, or where they first differ. A failure of the job OLD comes
 /// before one of the job NEW, and both before a difference.
 ///
-/// Both are read side by side, item by item, so that memory does not grow with them.
+/// Both are read side by side, so that memory does not grow with them. As long as the same is read
+/// of both, one is carried out for both.
 pub fn compare_jobs<S: Source, T: Source, A: Allocator + Copy, P: Allocator>(
     alloc: A,
     old_job: &mut S,
@@ -62,8 +64,9 @@ pub fn compare_jobs<S: Source, T: Source, A: Allocator + Copy, P: Allocator>(
     one_reading();
     let panel = profile.first_panel();
     let mut first = RunningJob::new(alloc, profile, &panel, number);
-    let mut follower = Follower::new(alloc, profile, &panel, number);
-    let found = compare_events(old_job, &mut first, new_job, &mut follower)?;
+    let mut spot = Spot::start();
+    let mut follower = go_together(alloc, old_job, new_job, &mut first, &mut spot)?;
+    let found = compare_events(old_job, &mut first, new_job, &mut follower, &mut spot)?;
     let mut second = follower.into_job();
     finish(old_job, &mut first, new_job, &mut second, found)
 }
@@ -134,34 +137,34 @@ fn failure_of<S: Source, A: Allocator + Copy, P: Allocator>(
     }
 }
 
-/// Compares what two jobs make, up to the first difference or to both ends. What is found holds
-/// where neither fails.
+/// Compares what two jobs make behind a spot up to which they made the same, up to the first
+/// difference or to both ends. What is found holds where neither fails.
 fn compare_events<S: Source, T: Source, A: Allocator + Copy, P: Allocator>(
     old_job: &mut S,
     first: &mut RunningJob<'_, A, P>,
     new_job: &mut T,
     second: &mut Follower<'_, A, P>,
+    spot: &mut Spot,
 ) -> Result<Comparison, Unread>
     requires old_job { IsFalse (S.state old_job.old).failed }
     requires new_job { IsFalse (T.state new_job.old).failed }
     ensures compared { IfOk result (λ found. EventsCompare
         (S.state old_job.old) (S.state old_job.new) (T.state new_job.old) (T.state new_job.new)
-        first.old first.new second.old second.new found) }
+        first.old first.new spot.old second.old second.new found) }
     ensures old_number { first.new.number ≡ first.old.number }
     ensures new_number { second.new.run.number ≡ second.old.run.number }
     ensures old_read { (S.state old_job.new).failed ≡ is_unread Which.Old result }
     ensures new_read { (T.state new_job.new).failed ≡ is_unread Which.New result }
     ensures err { IfErr result (λ unread. IsErrorOfJob unread.error) }
 {
-    let mut spot = Spot::start();
     'steps: while first.is_open() {
-        let found = compare_step(old_job, first, new_job, second, &mut spot)?;
+        let found = compare_step(old_job, first, new_job, second, spot)?;
         match found {
             None => {}
             Some(difference) => return Ok(Comparison::Differs(difference)),
         }
     }
-    compare_ends(first, new_job, second, spot)
+    compare_ends(first, new_job, second, *spot)
 }
 
 /// Takes the next step of OLD, and compares what it makes with what comes of NEW. Lines of text

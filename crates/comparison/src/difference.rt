@@ -7,8 +7,11 @@ ghost use Rattle.comparison.specs.Comparing.{spot_behind};
 ghost use Rattle.comparison.specs.Comparison.{at_start, behind_event, difference_at};
 ghost use Rattle.sinks.specs.Owned.{event_of};
 
+use page_env::{Mark, PageEnd};
+use page_machine::MarkSink;
 use sinks::{Counts, OwnedEvent};
 use std::alloc::Allocator;
+use std::convert::Infallible;
 use verdict::Failure;
 
 /// What differs.
@@ -110,5 +113,26 @@ impl Spot {
             new_place,
             change,
         }
+    }
+}
+
+/// Counts what a job makes that is carried out for both.
+impl MarkSink for Spot {
+    type Fault = Infallible;
+
+    ghost takes = { λ old event new. new ≡ behind_event event old };
+
+    ghost refuses = { λ old event new. ⊥ };
+
+    fn mark(&mut self, _mark: &Mark<'_>) -> Result<(), Infallible> {
+        self.counts.marks = self.counts.marks.saturating_add(1);
+        self.on_page = self.on_page.saturating_add(1);
+        Ok(())
+    }
+
+    fn page(&mut self, _page: PageEnd) -> Result<(), Infallible> {
+        self.counts.pages = self.counts.pages.saturating_add(1);
+        self.on_page = 0;
+        Ok(())
     }
 }

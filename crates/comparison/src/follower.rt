@@ -57,6 +57,13 @@ impl<'p, A: Allocator + Copy, P: Allocator> Follower<'p, A, P> {
         Follower { job, taken: 0 }
     }
 
+    /// A job that goes on from where it stands.
+    pub(crate) fn behind(job: RunningJob<'p, A, P>) -> Follower<'p, A, P>
+        ensures { result ≡ record { run = job.entry; taken = 0 } }
+    {
+        Follower { job, taken: 0 }
+    }
+
     /// Where its last item stands.
     pub fn place(&self) -> Place
         ensures { result ≡ self.now.run.place }

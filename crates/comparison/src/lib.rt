@@ -14,6 +14,7 @@ mod laws;
 mod running_job;
 mod stepping;
 mod texts;
+mod together;
 
 pub use changes::is_moved;
 pub use compare::{Unread, Which, compare_jobs};

@@ -1,7 +1,7 @@
 //! A job that is carried out, item by item, as it is read.
 
-ghost use Rattle.std.specs.Prelude.{◌≡◌, ◌*◌, ◌<◌, ◌≤◌, ◌^◌, List, [], IfErr, IfSome, IsFalse};
-ghost use Rattle.std.specs.Prelude.{OnOk, false, length, map, true};
+ghost use Rattle.std.specs.Prelude.{◌≡◌, ◌*◌, ◌<◌, ◌≤◌, ◌^◌, List, [], IfErr, IfOk, IfSome};
+ghost use Rattle.std.specs.Prelude.{IsFalse, IsTrue, OnOk, false, length, map, true};
 ghost use Rattle.device_profile.specs.Printer.{IsAllowed, Printer};
 ghost use Rattle.device_profile.specs.declared.panel.Panel.{Panel};
 ghost use Rattle.pcl_lexer.specs.Lexing.Passing.{ahead_of};
@@ -9,13 +9,15 @@ ghost use Rattle.page_env.specs.declared.text_lines.TextAppearance.{TextAppearan
 ghost use Rattle.page_machine.specs.TextLines.{IsMeasuredAt};
 ghost use Rattle.comparison.specs.Comparison.{Made};
 ghost use Rattle.comparison.specs.Running.{GoesBy, HasRun, IsErrorOfJob, IsWaiting, RunsOn};
-ghost use Rattle.comparison.specs.Running.{RunsOut, TakesEnd, TakesPiece, TakesWork, failure_of};
-ghost use Rattle.comparison.specs.Running.{is_open, place_after, progress_after, work};
+ghost use Rattle.comparison.specs.Running.{RunsOut, TakesEnd, TakesPiece, TakesRead, TakesWork};
+ghost use Rattle.comparison.specs.Running.{failure_of, is_open, place_after, progress_after, work};
+ghost use Rattle.comparison.specs.Together.{CountsBy};
 ghost use Rattle.comparison.specs.Texts.{GoNext, PassesLines};
 ghost use Rattle.sinks.specs.Owned.{event_of};
 ghost use Rattle.streams.specs.Errors.{is_err_of_read};
 ghost use Rattle.streams.specs.Source.{SourceState};
 
+use crate::difference::Spot;
 use crate::stepping::{Stepped, step};
 use device_profile::{Panel, Profile};
 use page_env::{TextLines, TextMeasure, TextPlace};
@@ -225,6 +227,74 @@ impl<'p, A: Allocator + Copy, P: Allocator> RunningJob<'p, A, P> {
         self.place = place_after(stepped, self.place, self.total);
         self.progress = progress_after(stepped);
         stepped
+    }
+
+    /// Carries out the next item or the end, as far as the bytes that were fed decide these, and
+    /// counts what that makes.
+    pub(crate) fn count_next(&mut self, spot: &mut Spot) -> Stepped
+        requires running { is_open self.old.progress ≡ true }
+        requires none { self.old.events ≡ [] }
+        ensures counted { CountsBy result self.old self.new spot.old spot.new }
+        ensures waits { result ≡ Stepped.More → IsWaiting self.new }
+        ensures less { TakesWork result self.old self.new }
+        ensures none { self.new.events ≡ [] }
+        ensures number { self.new.number ≡ self.old.number }
+    {
+        let (lexer, machine) = (&mut self.lexer, &mut self.machine);
+        let stepped = step(lexer, machine, spot, self.number, self.total);
+        self.place = place_after(stepped, self.place, self.total);
+        self.progress = progress_after(stepped);
+        stepped
+    }
+
+    /// Whether one read more may be made.
+    pub(crate) fn may_read(&self) -> bool
+        requires { is_open self.now.progress ≡ true }
+        ensures few { IsTrue result → self.now.reads < 2 ^ 40 }
+        ensures small { self.now.total ≤ 4096 * self.now.reads }
+    {
+        self.reads < MOST_READS
+    }
+
+    /// Takes what one read more gave, where nothing is the end of the job.
+    ///
+    /// An error means that memory was refused.
+    pub(crate) fn take_read(&mut self, piece: &[u8]) -> Result<(), AllocError>
+        requires waits { IsWaiting self.old }
+        requires few { self.old.reads < 2 ^ 40 }
+        requires small { self.old.total ≤ 4096 * self.old.reads }
+        requires short { length piece.now ≤ 4096 }
+        ensures taken { OnOk result (TakesRead piece.now self.old self.new) }
+        ensures less { OnOk result (work self.new < work self.old) }
+        ensures none { OnOk result (self.new.events ≡ []) }
+        ensures number { self.new.number ≡ self.old.number }
+    {
+        if piece.is_empty() {
+            self.take_end();
+            return Ok(());
+        }
+        self.take_piece(piece)
+    }
+
+    /// A job that stands where this one stands, of whose last item nothing is kept.
+    ///
+    /// An error means that memory was refused.
+    pub(crate) fn copied(&self, alloc: A) -> Result<RunningJob<'p, A, P>, AllocError>
+        requires { self.now.events ≡ [] }
+        ensures { IfOk result (λ copy. copy ≡ self.now) }
+    {
+        let lexer = self.lexer.copied(alloc)?;
+        let machine = self.machine.copied(alloc)?;
+        Ok(RunningJob {
+            lexer,
+            machine,
+            recorder: Recorder::new(alloc),
+            place: self.place,
+            total: self.total,
+            reads: self.reads,
+            number: self.number,
+            progress: self.progress,
+        })
     }
 
     /// Reads on, where the bytes so far decide nothing more.

@@ -1,12 +1,14 @@
 //! Lines of text that stand next in both jobs: where they print the same in both, they are carried
 //! out at once, and no mark is kept.
 
-ghost use Rattle.std.specs.Prelude.{◌≡◌, ◌<◌, ◌≤◌, IfSome, IsFalse, IsTrue, None, length, take};
+ghost use Rattle.std.specs.Prelude.{◌≡◌, ◌<◌, ◌≤◌, [], IfSome, IsFalse, IsTrue, None, length, take};
 ghost use Rattle.std.specs.Prelude.{true};
+ghost use Rattle.page_env.specs.declared.text_lines.TextAppearance.{TextAppearance};
 ghost use Rattle.page_env.specs.TextMeasure.{AreLinesFrom};
 ghost use Rattle.comparison.specs.Comparing.{StepCompares};
 ghost use Rattle.comparison.specs.Running.{is_open, work};
-ghost use Rattle.comparison.specs.Texts.{AreLinesOfBoth, GoInBoth};
+ghost use Rattle.comparison.specs.Texts.{AreLinesOfBoth, GoInBoth, GoNext};
+ghost use Rattle.comparison.specs.Together.{CountsOn};
 ghost use Rattle.streams.specs.Source.{SourceState};
 
 use crate::difference::Spot;
@@ -14,6 +16,44 @@ use crate::follower::Follower;
 use crate::running_job::RunningJob;
 use page_env::{TextLines, TextMeasure, TextPlace};
 use std::alloc::Allocator;
+
+/// Has a job that is carried out for both carry out the lines of text that stand next, and tells
+/// whether some do.
+pub(crate) fn count_lines<A: Allocator + Copy, P: Allocator>(
+    job: &mut RunningJob<'_, A, P>,
+    spot: &mut Spot,
+) -> bool
+    requires { is_open job.old.progress ≡ true }
+    ensures counted { IsTrue result → CountsOn job.old job.new spot.old spot.new }
+    ensures less { IsTrue result → work job.new < work job.old }
+    ensures none { IsTrue result → job.new.events ≡ [] }
+    ensures same { IsFalse result → job.new ≡ job.old }
+    ensures spot_same { IsFalse result → spot.new ≡ spot.old }
+    ensures number { job.new.number ≡ job.old.number }
+{
+    let Some(text) = lines_next(job) else {
+        return false;
+    };
+    job.pass_lines(&text);
+    spot.count_marks(text.glyphs);
+    true
+}
+
+/// The lines of text that stand next in a job.
+fn lines_next<A: Allocator + Copy, P: Allocator>(job: &RunningJob<'_, A, P>) -> Option<TextLines>
+    ensures { IfSome result (λ lines. (look : TextAppearance) × (from : TextPlace) ×
+        GoNext look from lines job.now) }
+{
+    if !job.has_text_next() {
+        return None;
+    }
+    let (measure, from) = job.text_measure()?;
+    let lines = measure.lines_ahead(from, job.ahead());
+    if lines.count == 0 {
+        return None;
+    }
+    Some(lines)
+}
 
 /// Has both jobs carry out the lines of text that stand next in both, where these print the same in
 /// both, and tells whether they did.

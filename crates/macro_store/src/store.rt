@@ -1,7 +1,7 @@
 //! The store.
 
 ghost use Rattle.std.specs.Prelude.{◌≡◌, ◌+◌, ◌<◌, ◌≤◌, ◌↔◌, None, Some, Err, IsSome, is_some};
-ghost use Rattle.std.specs.Prelude.{nat_eq, true, OnOk, OnErr, length};
+ghost use Rattle.std.specs.Prelude.{nat_eq, true, IfOk, OnOk, OnErr, length};
 ghost use Rattle.std.specs.List.{remove_range};
 ghost use Rattle.std.specs.Map.{lookup, remove_entry};
 ghost use Rattle.indexmap.specs.IndexMap.{spare};
@@ -127,6 +127,28 @@ impl<A: Allocator + Copy> MacroStore<A> {
             definition: None,
             commands: Vec::new(alloc),
         }
+    }
+
+    /// A store that stands as this one does, in memory of its own.
+    ///
+    /// An error means that memory was refused.
+    pub fn copied(&self, alloc: A) -> Result<Self, AllocError>
+        ensures { IfOk result (λ copy. copy ≡ self.now) }
+    {
+        let mut pool = Vec::new(alloc);
+        pool.extend_from_slice(self.pool.as_slice())?;
+        let mut commands = Vec::new(alloc);
+        commands.extend_from_slice(self.commands.as_slice())?;
+        let mut spans = self.spans.clone()?;
+        // The entry of a definition that is open has room.
+        spans.reserve(1)?;
+        Ok(MacroStore {
+            limit: self.limit,
+            pool,
+            spans,
+            definition: self.definition,
+            commands,
+        })
     }
 
     /// Whether a definition is open.

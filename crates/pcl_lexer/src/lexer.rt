@@ -2,7 +2,7 @@
 
 ghost use Rattle.std.specs.Prelude.{◌≡◌, ◌==◌, ◌≤◌, ◌-◌, ◌+◌, ◌^◌, ◌++◌, ℕ, List, [], length};
 ghost use Rattle.std.specs.Prelude.{get_or, take, drop, false, true, vec_len, vec_capacity, IfNone};
-ghost use Rattle.std.specs.Prelude.{IfSome, OnOk, OnErr};
+ghost use Rattle.std.specs.Prelude.{IfOk, IfSome, OnOk, OnErr};
 ghost use Rattle.std.specs.Borrow.{sem};
 
 pub(crate) mod ahead;
@@ -123,6 +123,23 @@ impl<A: Allocator> Lexer<A> {
         self.dropped += self.at as u64;
         self.at = 0;
         Ok(())
+    }
+
+    /// A lexer that stands where this one stands, over a window of its own.
+    ///
+    /// An error means that memory was refused.
+    pub fn copied(&self, alloc: A) -> Result<Lexer<A>, AllocError>
+        ensures { IfOk result (λ copy. copy ≡ self.now) }
+    {
+        let mut window = Vec::new(alloc);
+        window.extend_from_slice(self.window.as_slice())?;
+        Ok(Lexer {
+            window,
+            at: self.at,
+            dropped: self.dropped,
+            context: self.context,
+            ended: self.ended,
+        })
     }
 
     /// No piece follows.

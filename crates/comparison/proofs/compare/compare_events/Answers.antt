@@ -2,7 +2,6 @@ use Rattle.std.proofs.Common.{refl, subst, sym, ◌∙◌}
 use Rattle.std.proofs.lemmas.Result.{IfOk-weaker}
 use Rattle.comparison.specs.Comparing.{EndsCompare, EventsCompare, StepCompared}
 use Rattle.comparison.proofs.Ends.{errors_of_new, read_no_old}
-use Rattle.comparison.proofs.SoFar.{alike_none}
 use Rattle.comparison.proofs.compare.compare_events.Goals as goal
 
 pub steps-init : goal.steps-init
@@ -11,9 +10,7 @@ steps-init g c = record {
   new_working = c.requires.new_job;
   old_number = refl;
   new_number = refl;
-  alike = λ printer panel old_first new_first run followed.
-      alike_none printer panel old_first (g.S.Source.state c.args.old_job.now) new_first (g.T.Source.state c.args.new_job.now)
-      c.args.first.now c.start-spot.result c.args.second.now c.start-spot.ensures run followed;
+  alike = λ printer panel old_first new_first before. before;
 }
 
 pub compare_step-requires-clause-running : goal.compare_step-requires-clause-running
@@ -28,26 +25,26 @@ steps-preserved g c =
       new_working = c.in_ok-found.ensures.new_read;
       old_number = c.compare_step.ensures.old_number ∙ so_far.old_number;
       new_number = c.compare_step.ensures.new_number ∙ so_far.new_number;
-      alike = λ printer panel old_first new_first run followed.
+      alike = λ printer panel old_first new_first before.
           subst
           (λ found. StepCompared found printer panel old_first (g.S.Source.state new.old_job) new_first (g.T.Source.state new.new_job)
           new.first new.spot new.second)
           c.in-None.is
-          (c.in_ok-found.ensures.compared printer panel old_first new_first (so_far.alike printer panel old_first new_first run followed));
+          (c.in_ok-found.ensures.compared printer panel old_first new_first (so_far.alike printer panel old_first new_first before));
     }
 
 pub steps-smaller : goal.steps-smaller
 steps-smaller g c = c.in_ok-found.ensures.less
 
 pub returns-in-Some-clause-compared : goal.returns-in-Some-clause-compared
-returns-in-Some-clause-compared g c = λ printer panel old_first new_first run followed.
+returns-in-Some-clause-compared g c = λ printer panel old_first new_first before.
     let new = c.compare_step.new in
     subst
     (λ found. StepCompared found printer panel old_first (g.S.Source.state new.old_job) new_first (g.T.Source.state new.new_job)
     new.first new.spot new.second)
     c.in-Some.is
     (c.in_ok-found.ensures.compared printer panel old_first new_first
-    (c.steps.invariant.alike printer panel old_first new_first run followed))
+    (c.steps.invariant.alike printer panel old_first new_first before))
 
 pub compare_ends-requires-clause-over : goal.compare_ends-requires-clause-over
 compare_ends-requires-clause-over g c = sym c.is_open.ensures ∙ c.steps-test.false
@@ -59,9 +56,9 @@ returns-clause-compared g c =
     IfOk-weaker c.compare_ends.result
     (EndsCompare (g.T.Source.state c.steps.new_job) new_now' c.steps.first c.steps.spot c.steps.second c.compare_ends.new.second)
     (EventsCompare (g.S.Source.state c.args.old_job.now) old_now' (g.T.Source.state c.args.new_job.now) new_now' c.args.first.now
-    c.steps.first c.args.second.now c.compare_ends.new.second)
-    (λ found ends printer panel old_first new_first run followed.
-    ends printer panel old_first old_now' new_first (c.steps.invariant.alike printer panel old_first new_first run followed))
+    c.steps.first c.args.spot.now c.args.second.now c.compare_ends.new.second)
+    (λ found ends printer panel old_first new_first before.
+    ends printer panel old_first old_now' new_first (c.steps.invariant.alike printer panel old_first new_first before))
     c.compare_ends.ensures.compared
 
 pub returns-clause-old_read : goal.returns-clause-old_read

@@ -1,9 +1,9 @@
-use Rattle.std.proofs.Common.{◌≡◌, [], IsFalse}
+use Rattle.std.proofs.Common.{◌≡◌, IsFalse}
 use Rattle.device_profile.specs.declared.panel.Panel.{Panel}
 use Rattle.device_profile.specs.Printer.{Printer}
 use Rattle.streams.specs.Source.{SourceState}
-use Rattle.comparison.specs.Comparing.{GoAlike, HasFollowed}
-use Rattle.comparison.specs.Running.{HasRun, work}
+use Rattle.comparison.specs.Comparing.{GoAlike}
+use Rattle.comparison.specs.Running.{work}
 use Rattle.comparison.proofs.compare.compare_events.Given as goal
 
 abbrev pub invariant-steps : goal.invariant-steps
@@ -13,8 +13,8 @@ invariant-steps g l = record {
   old_number : l.first.number ≡ l.initial.first.number;
   new_number : l.second.run.number ≡ l.initial.second.run.number;
   alike : (printer : Printer) (panel : Panel) (old_first new_first : SourceState) →
-      HasRun printer panel old_first (g.S.Source.state l.initial.old_job) [] l.initial.first →
-      HasFollowed printer panel new_first (g.T.Source.state l.initial.new_job) [] l.initial.second →
+      GoAlike printer panel old_first (g.S.Source.state l.initial.old_job) new_first (g.T.Source.state l.initial.new_job)
+      l.initial.first l.initial.spot l.initial.second →
       GoAlike printer panel old_first (g.S.Source.state l.old_job) new_first (g.T.Source.state l.new_job) l.first l.spot l.second;
 }
 

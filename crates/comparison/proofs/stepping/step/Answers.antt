@@ -1,4 +1,4 @@
-use Rattle.std.proofs.Common.{ap, ◌∙◌, refl, subst, sym, Ok}
+use Rattle.std.proofs.Common.{ap, ◌∙◌, [], refl, subst, sym, Ok}
 use Rattle.pcl_items.specs.declared.item.Item.TheVariants.{Simple}
 use Rattle.pcl_items.specs.Items.{view}
 use Rattle.pcl_items.specs.Modes.{follows}
@@ -31,16 +31,19 @@ carry_out_other-requires-clause-admitted g c =
 -- ---- a command
 
 pub returns-in-Some-clause-came : goal.returns-in-Some-clause-came
-returns-in-Some-clause-came g c = λ printer panel bytes made total under.
-    item_steps printer panel c.args.number bytes made c.args.lexer.now c.args.machine.now under (answer_of c.in-Some.read)
-    c.next_command.new.self c.in-Some.ensures.command c.in-Some.read.place (Simple c.in-Some.read.item) refl c.carry_out.new.machine
-    c.carry_out.new.recorder.events c.carry_out.result c.carry_out.ensures
-
-pub returns-in-Some-clause-leaves : goal.returns-in-Some-clause-leaves
-returns-in-Some-clause-leaves g c =
-    item_leaves c.args.lexer.now c.next_command.new.self (answer_of c.in-Some.read) c.in-Some.ensures.command c.args.machine.now
-    c.in-Some.read.place (Simple c.in-Some.read.item) refl c.requires.mode c.args.number c.carry_out.new.machine
-    c.carry_out.new.recorder.events c.carry_out.result c.carry_out.ensures
+returns-in-Some-clause-came g c =
+    let carried = c.carry_out.ensures in record {
+      events = carried.events;
+      taken = carried.taken;
+      came = λ printer panel bytes made total under.
+          item_steps printer panel c.args.number bytes made c.args.lexer.now c.args.machine.now under (answer_of c.in-Some.read)
+          c.next_command.new.self c.in-Some.ensures.command c.in-Some.read.place (Simple c.in-Some.read.item) refl
+          c.carry_out.new.machine carried.events c.carry_out.result carried.carried;
+      leaves =
+          item_leaves c.args.lexer.now c.next_command.new.self (answer_of c.in-Some.read) c.in-Some.ensures.command c.args.machine.now
+          c.in-Some.read.place (Simple c.in-Some.read.item) refl c.requires.mode c.args.number c.carry_out.new.machine carried.events
+          c.carry_out.result carried.carried;
+    }
 
 pub returns-in-Some-clause-ended : goal.returns-in-Some-clause-ended
 returns-in-Some-clause-ended g c = c.in-Some.ensures.command.ended
@@ -51,22 +54,22 @@ returns-in-Some-clause-place g c = c.in-Some.ensures.command.total
 -- ---- another item
 
 pub returns-in-Ok-Item-clause-came : goal.returns-in-Ok-Item-clause-came
-returns-in-Ok-Item-clause-came g c = λ printer panel bytes made total under.
+returns-in-Ok-Item-clause-came g c =
     let is = c.in-Ok-Item.is ∙ ap Ok c.in-Ok-Item.field-0-is in
     let next =
     subst (λ old. IsNext old c.next.result c.next.follows.lender-at-none) c.in_default.ensures.none c.next.follows.holds-at-none in
-    item_steps printer panel c.args.number bytes made c.args.lexer.now c.args.machine.now under c.next.result
-    c.next.follows.lender-at-none next c.in-Ok-Item.place c.in-Ok-Item.item is c.carry_out_other.new.machine
-    c.carry_out_other.new.recorder.events c.carry_out_other.result c.carry_out_other.ensures
-
-pub returns-in-Ok-Item-clause-leaves : goal.returns-in-Ok-Item-clause-leaves
-returns-in-Ok-Item-clause-leaves g c =
-    let is = c.in-Ok-Item.is ∙ ap Ok c.in-Ok-Item.field-0-is in
-    let next =
-    subst (λ old. IsNext old c.next.result c.next.follows.lender-at-none) c.in_default.ensures.none c.next.follows.holds-at-none in
-    item_leaves c.args.lexer.now c.next.follows.lender-at-none c.next.result next c.args.machine.now c.in-Ok-Item.place c.in-Ok-Item.item
-    is c.requires.mode c.args.number c.carry_out_other.new.machine c.carry_out_other.new.recorder.events c.carry_out_other.result
-    c.carry_out_other.ensures
+    let carried = c.carry_out_other.ensures in record {
+      events = carried.events;
+      taken = carried.taken;
+      came = λ printer panel bytes made total under.
+          item_steps printer panel c.args.number bytes made c.args.lexer.now c.args.machine.now under c.next.result
+          c.next.follows.lender-at-none next c.in-Ok-Item.place c.in-Ok-Item.item is c.carry_out_other.new.machine carried.events
+          c.carry_out_other.result carried.carried;
+      leaves =
+          item_leaves c.args.lexer.now c.next.follows.lender-at-none c.next.result next c.args.machine.now c.in-Ok-Item.place
+          c.in-Ok-Item.item is c.requires.mode c.args.number c.carry_out_other.new.machine carried.events c.carry_out_other.result
+          carried.carried;
+    }
 
 pub returns-in-Ok-Item-clause-ended : goal.returns-in-Ok-Item-clause-ended
 returns-in-Ok-Item-clause-ended g c =
@@ -83,20 +86,20 @@ returns-in-Ok-Item-clause-place g c =
 -- ---- no more bytes
 
 pub returns-in-Ok-NeedMore-clause-came : goal.returns-in-Ok-NeedMore-clause-came
-returns-in-Ok-NeedMore-clause-came g c = λ printer panel bytes made total under.
+returns-in-Ok-NeedMore-clause-came g c =
     let is = c.in-Ok-NeedMore.is ∙ ap Ok c.in-Ok-NeedMore.field-0-is in
     let next =
     subst (λ old. IsNext old c.next.result c.next.follows.lender-at-none) c.in_default.ensures.none c.next.follows.holds-at-none in
-    wait_steps printer panel c.args.number bytes made c.args.lexer.now c.args.machine.now under c.next.result
-    c.next.follows.lender-at-none next is c.args.machine.now c.args.recorder.now.events refl
-
-pub returns-in-Ok-NeedMore-clause-leaves : goal.returns-in-Ok-NeedMore-clause-leaves
-returns-in-Ok-NeedMore-clause-leaves g c =
-    let is = c.in-Ok-NeedMore.is ∙ ap Ok c.in-Ok-NeedMore.field-0-is in
-    let next =
-    subst (λ old. IsNext old c.next.result c.next.follows.lender-at-none) c.in_default.ensures.none c.next.follows.holds-at-none in
-    wait_leaves c.args.lexer.now c.next.follows.lender-at-none c.next.result next c.args.machine.now is c.requires.running c.requires.mode
-    c.args.recorder.now.events c.requires.empty
+    record {
+      events = [];
+      taken = refl;
+      came = λ printer panel bytes made total under.
+          wait_steps printer panel c.args.number bytes made c.args.lexer.now c.args.machine.now under c.next.result
+          c.next.follows.lender-at-none next is c.args.machine.now [] refl;
+      leaves =
+          wait_leaves c.args.lexer.now c.next.follows.lender-at-none c.next.result next c.args.machine.now is c.requires.running
+          c.requires.mode [] refl;
+    }
 
 pub returns-in-Ok-NeedMore-clause-ended : goal.returns-in-Ok-NeedMore-clause-ended
 returns-in-Ok-NeedMore-clause-ended g c =
@@ -113,21 +116,21 @@ returns-in-Ok-NeedMore-clause-place g c =
 -- ---- the end
 
 pub returns-in-Ok-End-clause-came : goal.returns-in-Ok-End-clause-came
-returns-in-Ok-End-clause-came g c = λ printer panel bytes made total under.
+returns-in-Ok-End-clause-came g c =
     let is = c.in-Ok-End.is ∙ ap Ok c.in-Ok-End.field-0-is in
     let next =
     subst (λ old. IsNext old c.next.result c.next.follows.lender-at-none) c.in_default.ensures.none c.next.follows.holds-at-none in
-    end_steps printer panel c.args.number bytes made c.args.lexer.now c.args.machine.now under c.next.result
-    c.next.follows.lender-at-none next is c.args.total total c.carry_out_end.new.machine c.carry_out_end.new.recorder.events
-    c.carry_out_end.result c.carry_out_end.ensures
-
-pub returns-in-Ok-End-clause-leaves : goal.returns-in-Ok-End-clause-leaves
-returns-in-Ok-End-clause-leaves g c =
-    let is = c.in-Ok-End.is ∙ ap Ok c.in-Ok-End.field-0-is in
-    let next =
-    subst (λ old. IsNext old c.next.result c.next.follows.lender-at-none) c.in_default.ensures.none c.next.follows.holds-at-none in
-    end_leaves c.args.lexer.now c.next.follows.lender-at-none c.next.result next c.args.machine.now is c.args.number c.args.total
-    c.carry_out_end.new.machine c.carry_out_end.new.recorder.events c.carry_out_end.result c.carry_out_end.ensures
+    let ended = c.carry_out_end.ensures in record {
+      events = ended.events;
+      taken = ended.taken;
+      came = λ printer panel bytes made total under.
+          end_steps printer panel c.args.number bytes made c.args.lexer.now c.args.machine.now under c.next.result
+          c.next.follows.lender-at-none next is c.args.total total c.carry_out_end.new.machine ended.events c.carry_out_end.result
+          ended.ends;
+      leaves =
+          end_leaves c.args.lexer.now c.next.follows.lender-at-none c.next.result next c.args.machine.now is c.args.number c.args.total
+          c.carry_out_end.new.machine ended.events c.carry_out_end.result ended.ends;
+    }
 
 pub returns-in-Ok-End-clause-ended : goal.returns-in-Ok-End-clause-ended
 returns-in-Ok-End-clause-ended g c =
@@ -144,21 +147,20 @@ returns-in-Ok-End-clause-place g c =
 -- ---- a fault
 
 pub returns-in-Err-clause-came : goal.returns-in-Err-clause-came
-returns-in-Err-clause-came g c = λ printer panel bytes made total under.
+returns-in-Err-clause-came g c =
     let next =
     subst (λ old. IsNext old c.next.result c.next.follows.lender-at-none) c.in_default.ensures.none c.next.follows.holds-at-none in
-    subst
-    (λ failure. StepsTo (FailsBy failure) printer panel c.args.number bytes made c.next.follows.lender-at-none c.args.machine.now
-    c.args.recorder.now.events)
-    (sym c.of_fault.ensures)
-    (fault_steps printer panel c.args.number bytes made c.args.lexer.now c.args.machine.now under c.next.result
-    c.next.follows.lender-at-none next c.in-Err.fault c.in-Err.is c.args.machine.now c.args.recorder.now.events)
-
-pub returns-in-Err-clause-leaves : goal.returns-in-Err-clause-leaves
-returns-in-Err-clause-leaves g c =
-    let next =
-    subst (λ old. IsNext old c.next.result c.next.follows.lender-at-none) c.in_default.ensures.none c.next.follows.holds-at-none in
-    subst (λ answer. Advances c.args.lexer.now answer c.next.follows.lender-at-none) c.in-Err.is next.advances
+    record {
+      events = [];
+      taken = refl;
+      came = λ printer panel bytes made total under.
+          subst
+          (λ failure. StepsTo (FailsBy failure) printer panel c.args.number bytes made c.next.follows.lender-at-none c.args.machine.now [])
+          (sym c.of_fault.ensures)
+          (fault_steps printer panel c.args.number bytes made c.args.lexer.now c.args.machine.now under c.next.result
+          c.next.follows.lender-at-none next c.in-Err.fault c.in-Err.is c.args.machine.now []);
+      leaves = subst (λ answer. Advances c.args.lexer.now answer c.next.follows.lender-at-none) c.in-Err.is next.advances;
+    }
 
 pub returns-in-Err-clause-ended : goal.returns-in-Err-clause-ended
 returns-in-Err-clause-ended g c =
