@@ -84,7 +84,7 @@ LeavesDrawnFor asked fleet names start drawn ended ended' file file' out out' er
     ((found : Found) × FindsDrawn asked fleet start found ended ended'
     × DrawsFound asked fleet names found drawn file file' out out'
     × (err' ≡ err))
-    ⊎ (LeavesStop asked drawn.status ended ended' err err'
+    ⊎ (LeavesStop (drawn_manner asked.nearness asked.extent) asked drawn.status ended ended' err err'
     × (drawn.is_drawn ≡ false) × (file' ≡ file) × (out' ≡ out))
 
 -- The jobs are compared on the printers of these texts; or there are no printers, no job is read and nothing is

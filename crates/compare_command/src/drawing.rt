@@ -102,7 +102,7 @@ fn draw_on_printers<'n, J: Jobs<'n>, D: Create, O: Outlet, E: Outlet>(
     match find(alloc, jobs, asked, manner, fleet) {
         Ok(found) => draw_found(alloc, asked, fleet, names, &found, out, stdout),
         Err(stop) => {
-            let status = tell_stop(alloc, asked, &stop, stderr);
+            let status = tell_stop(alloc, asked, manner, &stop, stderr);
             Drawn {
                 status,
                 is_drawn: false,
