@@ -43,7 +43,7 @@ abbrev pub picture_found : Asked → List Printer → List (List ℕ) → Found 
 picture_found asked fleet names found =
     picture_by (telling_of asked names) (near_by asked.nearness) fleet found.number found.outcome
 
--- it is told as without a picture
+-- what was found page by page is told in the words that it has without a picture
 abbrev pub TellsFound : Asked → List (List ℕ) → Found → Status → OutletState → OutletState → Type 0
 TellsFound asked names found status out out' =
     WritesFound (found_text (telling_of asked names) found.number found.outcome)

@@ -45,7 +45,8 @@ impl Drawn {
 /// SVG, or where all differences are told, the pages that differ as an HTML document. Jobs that
 /// print the same, and jobs that fail, leave OUT as it is.
 ///
-/// Pages are compared one by one, and those that are drawn are held until both jobs are read.
+/// Pages are compared one by one, so the first difference is the first of all of them, as the
+/// picture shows them. Those that are drawn are held until both jobs are read.
 pub fn compare_drawn<'n, J: Jobs<'n>, T: ProfileTexts, D: Create, O: Outlet, E: Outlet>(
     alloc: Global,
     jobs: &mut J,
