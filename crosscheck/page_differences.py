@@ -93,7 +93,9 @@ def box(line: str) -> Tuple[int, int, int, int]:
     what, at = parts(line)
     if what[0] == "row":
         pixel = 7200 * TICKS_PER_7200TH // int(what[1])
-        return at[0], at[1], at[0] + len(what[2]) // 2 * 8 * pixel, at[1] + pixel
+        pixels = f"{int(what[2], 16):0{4 * len(what[2])}b}"
+        first, behind = pixels.index("1"), pixels.rindex("1") + 1
+        return at[0] + first * pixel, at[1], at[0] + behind * pixel, at[1] + pixel
     if what[0] == "line":
         half = abs(int(what[1])) // 2
         (x0, y0, x1, y1) = at

@@ -25,8 +25,8 @@ const SHORT_HELP: &str = "Usage:
 const EXPLANATION: &str =
     "It tells whether NEW prints what OLD does: the same marks at the same places in the same order, on
 pages that end with the same size, orientation, sides, tray and copies. Each printer stands at the
-first value that its profile lists of each field. How the commands are spelled, and by which of them
-a mark comes to its place, does not matter.
+first value that its profile lists of each field; check tries the others, too. How the commands are
+spelled, and by which of them a mark comes to its place, does not matter.
 
   --any-order      the marks of a page may be made in any order: on paper the same, but that where
                    white and another mark overlap the other one may lie on top, which is told as
@@ -39,21 +39,24 @@ Output, one line:
   SAME pages=N marks=N
   DIFFERS page=N mark=N old=N new=N printer=NAME CHANGE    the first difference, on the first printer
                                                            that has one
-  FAIL at=N printer=NAME FINDING JOB                       JOB fails there, as check tells it; what
+  FAIL at=N printer=NAME FINDING JOB                       JOB fails there with these values; what
                                                            fails in OLD comes first
 
   page=, mark=  the page, and the mark on it in OLD, both from 1: of what only NEW has, that in NEW;
-                of the end of a page the mark behind its last one
+                of the end of a page the mark behind its last one, which is 1 of a blank page
   old=, new=    the byte of the command in OLD and in NEW that makes the mark or ends the page; where
                 a job makes nothing more, its length
   CHANGE        moved: the mark stands elsewhere, and is else the same; changed: another one stands
-                there; only in OLD, only in NEW: the other one has no further mark on the page, or no
-                page; page ends otherwise: by one of its five values; covered otherwise: NEW makes
-                the mark and an earlier one that it overlaps in the other order, and one is white
+                there; only in OLD, only in NEW: the other one lacks the mark, or the page, whose end
+                is then told so, too; page ends otherwise: by one of its five values; covered
+                otherwise: NEW makes the mark and an earlier one that it overlaps in the other order,
+                and one is white
 
 With --all a line for each difference on that printer, page by page. Marks that only one job has are
 left out, as few as possible, up to where both go on alike: at most 64 together, or else 4096 of one
-job alone. Of more than --most differences:
+job alone. So a mark more in NEW is told as only in NEW. Without --all the one line is on the first
+two marks that are not the same, and may call them moved or changed; with --within, --any-order or
+--picture it is the first line of --all. Of more than --most differences:
   MORE pages=N  more are left out, and so many pages differ
 
 With --golden DIR each word is a NEW, and its OLD the file of the same name in DIR. Its lines end
@@ -66,9 +69,10 @@ red what OLD has alone, green what NEW has alone, and beside it the differences,
 1000 a page in the document at most. OUT takes its place when it is whole, and is as it was where no
 page differs.
 
-With --format words each line is a sentence, with --format json an object. Both jobs are read side by
-side, once for each printer: for several printers they have to be files. --any-order, --within and
---all hold a page of each, of 1048576 marks at most.
+With --format words each line is a sentence, with --format json an object; those of a FAIL have no
+page, command or place on the sheet, which check tells. Both jobs are read side by side, once for
+each printer: for several printers they have to be files. --any-order, --within, --all and --picture
+hold a page of each, of 1048576 marks at most.
 
 Exit status, of many jobs the greatest of theirs:
   0  both print the same, or help was asked for

@@ -124,14 +124,14 @@ memory_is_no_read New Old = refl
 memory_is_no_read New New = refl
 
 -- an error that is neither a failed read nor one of memory stops the work, and nothing is told
-pub error_stops : (name : List ℕ) (error : Error) (err : OutletState) → IsErrorOfJob error → (error ≡ Read → ⊥) → (error ≡ Memory → ⊥) →
-    StopsAt name error (Stopped error) err err
-error_stops name Memory err h unread full = absurd (full refl)
-error_stops name Read err h unread full = absurd (unread refl)
-error_stops name Turns err h unread full = (refl, refl)
-error_stops name Write err h unread full = absurd h
-error_stops name NoProfile err h unread full = absurd h
-error_stops name Items err h unread full = absurd h
+pub error_stops : (manner : Manner) (name : List ℕ) (error : Error) (err : OutletState) → IsErrorOfJob error → (error ≡ Read → ⊥) →
+    (error ≡ Memory → ⊥) → StopsAt manner name error (Stopped error) err err
+error_stops manner name Memory err h unread full = absurd (full refl)
+error_stops manner name Read err h unread full = absurd (unread refl)
+error_stops manner name Turns err h unread full = (refl, refl)
+error_stops manner name Write err h unread full = absurd h
+error_stops manner name NoProfile err h unread full = absurd h
+error_stops manner name Items err h unread full = absurd h
 
 -- ---- on one printer after another
 

@@ -31,6 +31,7 @@ use Rattle.comparison.specs.Running.{IsErrorOfJob}
 use Rattle.compare_command.specs.declared.asked.CompareAsked.{CompareAsked}
 use Rattle.compare_command.specs.declared.found.Found.{Found}
 use Rattle.compare_command.specs.declared.found.Manner.{Manner}
+use Rattle.compare_command.specs.declared.found.Manner.TheVariants.{ByEvents, ByPages}
 use Rattle.compare_command.specs.declared.found.Outcome.{Outcome}
 use Rattle.compare_command.specs.declared.found.Outcome.TheVariants.{OfEvents}
 use Rattle.compare_command.specs.Outcomes.{IsOutcome, manner_of, same_counts, status_by}
@@ -153,22 +154,31 @@ pub record StopsJobs (old new : List ℕ) (which : Which) (error : Error) (ended
   pub reads : StopsReading old_read new_read which error
   pub ended_is : ended' ≡ ended ++ (earlier ++ (job_read old old_read ∷ job_read new new_read ∷ []))
 
--- why the job of this name was not compared: standard error is told that it cannot be read, or that a page of it cannot
--- be held, or nothing
-abbrev pub StopsAt : List ℕ → Error → Status → OutletState → OutletState → Type 0
-StopsAt name Read status err err' = TellsUnread (codes "ERROR read job ") name status err err'
-StopsAt name Memory status err err' =
+-- standard error is told that a page of the job of this name cannot be held; or memory ran out, and nothing is told
+abbrev pub TellsUnheld : List ℕ → Status → OutletState → OutletState → Type 0
+TellsUnheld name status err err' =
     TellsUnread (codes "ERROR memory job ") name status err err' ⊎ ((status ≡ Stopped Memory) × (err' ≡ err))
-StopsAt name Turns status err err' = (status ≡ Stopped Turns) × (err' ≡ err)
-StopsAt name Write status err err' = ⊥
-StopsAt name NoProfile status err err' = ⊥
-StopsAt name Items status err err' = ⊥
 
--- one of the jobs is not compared, and of that one it is told
-abbrev pub LeavesStop : Asked → Status → List JobRead → List JobRead → OutletState → OutletState → Type 0
-LeavesStop asked status ended ended' err err' =
+-- there was no memory for the job of this name: event by event no page is held, and nothing is told
+abbrev pub LacksMemory : Manner → List ℕ → Status → OutletState → OutletState → Type 0
+LacksMemory ByEvents name status err err' = (status ≡ Stopped Memory) × (err' ≡ err)
+LacksMemory (ByPages nearness most) name status err err' = TellsUnheld name status err err'
+
+-- why the job of this name was not compared in this manner: standard error is told that it cannot be read, or that a
+-- page of it cannot be held, or nothing
+abbrev pub StopsAt : Manner → List ℕ → Error → Status → OutletState → OutletState → Type 0
+StopsAt manner name Read status err err' = TellsUnread (codes "ERROR read job ") name status err err'
+StopsAt manner name Memory status err err' = LacksMemory manner name status err err'
+StopsAt manner name Turns status err err' = (status ≡ Stopped Turns) × (err' ≡ err)
+StopsAt manner name Write status err err' = ⊥
+StopsAt manner name NoProfile status err err' = ⊥
+StopsAt manner name Items status err err' = ⊥
+
+-- one of the jobs is not compared in this manner, and of that one it is told
+abbrev pub LeavesStop : Manner → Asked → Status → List JobRead → List JobRead → OutletState → OutletState → Type 0
+LeavesStop manner asked status ended ended' err err' =
     (which : Which) × (error : Error) × StopsJobs asked.old_name asked.new_name which error ended ended'
-    × StopsAt (name_by asked which) error status err err'
+    × StopsAt manner (name_by asked which) error status err err'
 
 -- these are the printers of texts, of those that are known and of those that were read between given and given', with
 -- the names that these texts give them
@@ -188,7 +198,7 @@ LeavesFound asked fleet names start status ended ended' out out' err err' =
     × WritesFound (found_text (telling_of asked names) found.number found.outcome)
     (status_by (same_counts found.outcome)) status out out'
     × (err' ≡ err))
-    ⊎ (LeavesStop asked status ended ended' err err' × (out' ≡ out))
+    ⊎ (LeavesStop (manner_of asked.nearness asked.extent) asked status ended ended' err err' × (out' ≡ out))
 
 -- There are no printers of these words: of one that is refused, or cannot be read, standard error is told; or memory
 -- ran out.

@@ -43,7 +43,7 @@ abbrev pub picture_found : Asked → List Printer → List (List ℕ) → Found 
 picture_found asked fleet names found =
     picture_by (telling_of asked names) (near_by asked.nearness) fleet found.number found.outcome
 
--- it is told as without a picture
+-- what was found page by page is told in the words that it has without a picture
 abbrev pub TellsFound : Asked → List (List ℕ) → Found → Status → OutletState → OutletState → Type 0
 TellsFound asked names found status out out' =
     WritesFound (found_text (telling_of asked names) found.number found.outcome)
@@ -84,7 +84,7 @@ LeavesDrawnFor asked fleet names start drawn ended ended' file file' out out' er
     ((found : Found) × FindsDrawn asked fleet start found ended ended'
     × DrawsFound asked fleet names found drawn file file' out out'
     × (err' ≡ err))
-    ⊎ (LeavesStop asked drawn.status ended ended' err err'
+    ⊎ (LeavesStop (drawn_manner asked.nearness asked.extent) asked drawn.status ended ended' err err'
     × (drawn.is_drawn ≡ false) × (file' ≡ file) × (out' ≡ out))
 
 -- The jobs are compared on the printers of these texts; or there are no printers, no job is read and nothing is

@@ -23,7 +23,7 @@ use Rattle.compare_command.specs.declared.golden.Ending.TheVariants.{Agrees, Dif
 use Rattle.compare_command.specs.Compare.{AreOfTexts, Asked, FindsFor, RefusesPrinter, StopsJobs, name_by}
 use Rattle.compare_command.specs.Compare.{telling_of}
 use Rattle.compare_command.specs.Outcomes.{same_counts}
-use Rattle.compare_command.specs.Telling.{failure_text, found_text, unread}
+use Rattle.compare_command.specs.Telling.{found_text, stop_told}
 
 -- ---- what is asked for
 
@@ -92,7 +92,7 @@ status_at HasNoVerdict = Told NoVerdict
 
 -- one of the jobs has no verdict, and this is known of why
 abbrev pub stop_text : Asked → List (List ℕ) → Which → Error → Option (List ℕ) → List ℕ
-stop_text asked names which error cause = failure_text asked.form (unread names (name_by asked which) error cause)
+stop_text asked names which error cause = stop_told asked.form names (name_by asked which) error cause
 
 -- the text of what is found of a pair on printers with these names, and how it counts
 pub record TellsFound (asked : Asked) (fleet : List Printer) (names : List (List ℕ)) (start : List ℕ → SourceState)

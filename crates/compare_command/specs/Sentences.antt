@@ -1,6 +1,6 @@
 -- The sentences that tell what comes of two jobs.
-use Rattle.std.specs.Prelude.{ℕ, List, ◌++◌, codes}
-use Rattle.job_reports.specs.JobSentences.{named_first}
+use Rattle.std.specs.Prelude.{ℕ, List, ◌++◌, Option, codes}
+use Rattle.job_reports.specs.JobSentences.{cause_phrase, named_first}
 use Rattle.line_words.specs.Figures.{named}
 use Rattle.shown_bytes.specs.Shown.{shown_text}
 use Rattle.sinks.specs.declared.counts.Counts.{Counts}
@@ -64,3 +64,11 @@ more_part pages = named (codes " are left out (pages that differ: ") pages ++ co
 unfoldable pub more_sentence : (old new : List ℕ) → ℕ → List ℕ
 more_sentence old new pages =
     named_first new ++ codes "more differences from " ++ shown_text old ++ more_part pages
+
+-- why, as far as it is known
+unfoldable pub unheld_cause : Option (List ℕ) → List ℕ
+unheld_cause cause = cause_phrase cause ++ codes " (ERROR memory)\n"
+
+-- there is no memory for the job of this name, or for a page of it
+unfoldable pub unheld_sentence : List ℕ → Option (List ℕ) → List ℕ
+unheld_sentence job cause = named_first job ++ codes "the pages of this job cannot be compared" ++ unheld_cause cause

@@ -1,5 +1,6 @@
 -- What is told of two jobs.
-use Rattle.std.specs.Prelude.{ℕ, ◌&&◌, ◌++◌, Bool, false, List, [], Option, None, Ok, Err, if◌then◌else◌, flat_map, map}
+use Rattle.std.specs.Prelude.{ℕ, ◌&&◌, ◌++◌, Bool, false, true, List, [], Option, None, Ok, Err, if◌then◌else◌}
+use Rattle.std.specs.Prelude.{flat_map, map}
 use Rattle.std.specs.declared.alloc.Global.{Global}
 use Rattle.preflight.specs.declared.failing_item.Judgement.{Judgement}
 use Rattle.requests.specs.declared.many_words.Form.{Form}
@@ -10,6 +11,7 @@ use Rattle.job_reports.specs.Reports.{Reported}
 use Rattle.many_jobs.specs.JobObjects.{job_object}
 use Rattle.sinks.specs.declared.counts.Counts.{Counts}
 use Rattle.streams.specs.declared.error.Error.{Error}
+use Rattle.streams.specs.declared.error.Error.TheVariants.{Memory, Read, Write, Turns, NoProfile, Items}
 use Rattle.verdict.specs.declared.failure.Failure.{Failure}
 use Rattle.verdict.specs.Failing.{failing}
 use Rattle.comparison.specs.declared.difference.Change.{Change}
@@ -28,7 +30,7 @@ use Rattle.compare_command.specs.declared.found.Outcome.{Outcome}
 use Rattle.compare_command.specs.declared.found.Outcome.TheVariants.{OfEvents, OfPages}
 use Rattle.compare_command.specs.declared.telling.Telling.{Telling}
 use Rattle.compare_command.specs.Lines.{difference_line, more_line, name_of, same_line}
-use Rattle.compare_command.specs.Sentences.{difference_sentence, more_sentence, same_sentence}
+use Rattle.compare_command.specs.Sentences.{difference_sentence, more_sentence, same_sentence, unheld_sentence}
 use Rattle.compare_command.specs.Objects.{difference_object, more_object, same_object}
 
 -- the names of both jobs and of the printers, the form, whether a line ends with the name of the new job, and whether
@@ -71,6 +73,29 @@ failure_text Line report = job_line report
 failure_text Words report = job_sentence report
 failure_text Json report = job_object [] report
 failure_text Html report = job_line report
+
+abbrev pub is_words : Form → Bool
+is_words Line = false
+is_words Words = true
+is_words Json = false
+is_words Html = false
+
+abbrev pub is_memory : Error → Bool
+is_memory Memory = true
+is_memory Read = false
+is_memory Write = false
+is_memory Turns = false
+is_memory NoProfile = false
+is_memory Items = false
+
+-- a sentence tells that there is no memory for a job, or for a page of it
+abbrev pub is_unheld : Form → Error → Bool
+is_unheld form error = is_words form && is_memory error
+
+-- why the job of this name is not compared for printers of these names: else as a check tells it
+abbrev pub stop_told : Form → (names : List (List ℕ)) → (job : List ℕ) → Error → Option (List ℕ) → List ℕ
+stop_told form names job error cause =
+    if is_unheld form error then unheld_sentence job cause else failure_text form (unread names job error cause)
 
 -- ---- two jobs that print the same, and a difference
 

@@ -154,7 +154,7 @@ fn compare_on_printers<'n, J: Jobs<'n>, O: Outlet, E: Outlet>(
     let names = printers.names.as_slice();
     match find(alloc, jobs, asked, manner, fleet) {
         Ok(found) => write_found(alloc, asked, names, &found, stdout),
-        Err(stop) => tell_stop(alloc, asked, &stop, stderr),
+        Err(stop) => tell_stop(alloc, asked, manner, &stop, stderr),
     }
 }
 

@@ -45,7 +45,8 @@ impl Drawn {
 /// SVG, or where all differences are told, the pages that differ as an HTML document. Jobs that
 /// print the same, and jobs that fail, leave OUT as it is.
 ///
-/// Pages are compared one by one, and those that are drawn are held until both jobs are read.
+/// Pages are compared one by one, so the first difference is the first of all of them, as the
+/// picture shows them. Those that are drawn are held until both jobs are read.
 pub fn compare_drawn<'n, J: Jobs<'n>, T: ProfileTexts, D: Create, O: Outlet, E: Outlet>(
     alloc: Global,
     jobs: &mut J,
@@ -102,7 +103,7 @@ fn draw_on_printers<'n, J: Jobs<'n>, D: Create, O: Outlet, E: Outlet>(
     match find(alloc, jobs, asked, manner, fleet) {
         Ok(found) => draw_found(alloc, asked, fleet, names, &found, out, stdout),
         Err(stop) => {
-            let status = tell_stop(alloc, asked, &stop, stderr);
+            let status = tell_stop(alloc, asked, manner, &stop, stderr);
             Drawn {
                 status,
                 is_drawn: false,

@@ -17,7 +17,7 @@ use crate::command::{Printers, read_printers};
 use crate::finding::find;
 use crate::found::{Found, manner_of};
 use crate::stops::{Stop, name_by};
-use crate::telling::{found_text, push_unread};
+use crate::telling::{found_text, push_stop};
 use named_inputs::{Jobs, ProfileTexts};
 use requests::{Status, Trouble};
 use sinks::Counts;
@@ -234,7 +234,7 @@ fn told_of_stop(
     let name = name_by(asked, stop.which);
     let cause = stop.cause.as_ref().map(|words| words.as_bytes());
     let mut text = Vec::new(alloc);
-    push_unread(alloc, &mut text, asked.form, names, name, stop.error, cause)?;
+    push_stop(alloc, &mut text, asked.form, names, name, stop.error, cause)?;
     Ok(PairTold {
         text,
         ending: Ending::HasNoVerdict,

@@ -1,6 +1,6 @@
 //! The sentences that tell what comes of two jobs.
 
-ghost use Rattle.std.specs.Prelude.{◌≡◌, ◌++◌, OnOk};
+ghost use Rattle.std.specs.Prelude.{◌≡◌, ◌++◌, OnOk, option_map};
 ghost use Rattle.compare_command.specs.Sentences.{
   change_phrase,
   counts_part,
@@ -14,11 +14,13 @@ ghost use Rattle.compare_command.specs.Sentences.{
   printer_phrase,
   same_sentence,
   spot_phrase,
+  unheld_cause,
+  unheld_sentence,
   what_phrase,
 };
 
 use crate::lines::{mark_of, push_counts};
-use job_reports::push_named_first;
+use job_reports::{push_cause_phrase, push_named_first};
 use line_words::push_named;
 use page_comparison::{PageChange, PageDifference};
 use shown_bytes::push_shown_text;
@@ -203,4 +205,35 @@ fn push_new_place<A: Allocator>(
 {
     push_named(text, b", byte ", difference.new_place)?;
     text.extend_from_slice(b" here)\n")
+}
+
+/// Appends the sentence on the job of this name, for which there is no memory, or for a page of it.
+#[tactic(auto, unfolding(crate::specs::Sentences::unheld_sentence))]
+pub(crate) fn push_unheld_sentence<A: Allocator + Copy>(
+    alloc: A,
+    text: &mut Vec<u8, A>,
+    job: &str,
+    cause: Option<&[u8]>,
+) -> Result<(), AllocError>
+    ensures { OnOk result (text.new.items ≡ text.old.items
+        ++ unheld_sentence job.now (option_map (λ words. words.now) cause.entry)) }
+{
+    push_named_first(alloc, text, job.as_bytes())?;
+    text.extend_from_slice(b"the pages of this job cannot be compared")?;
+    push_unheld_cause(alloc, text, cause)?;
+    Ok(())
+}
+
+#[tactic(auto, unfolding(crate::specs::Sentences::unheld_cause))]
+fn push_unheld_cause<A: Allocator + Copy>(
+    alloc: A,
+    text: &mut Vec<u8, A>,
+    cause: Option<&[u8]>,
+) -> Result<(), AllocError>
+    ensures { OnOk result (text.new.items ≡ text.old.items
+        ++ unheld_cause (option_map (λ words. words.now) cause.entry)) }
+{
+    push_cause_phrase(alloc, text, cause)?;
+    text.extend_from_slice(b" (ERROR memory)\n")?;
+    Ok(())
 }

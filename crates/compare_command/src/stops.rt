@@ -3,12 +3,14 @@
 ghost use Rattle.std.specs.Prelude.{◌≡◌, IsFalse};
 ghost use Rattle.comparison.specs.Comparing.{is_unread_by};
 ghost use Rattle.comparison.specs.Running.{IsErrorOfJob};
-ghost use Rattle.compare_command.specs.Compare.{StopsAt, StopsReading, asked_for, name_by};
+ghost use Rattle.compare_command.specs.Compare.{LacksMemory, StopsAt, StopsReading, TellsUnheld};
+ghost use Rattle.compare_command.specs.Compare.{asked_for, name_by};
 ghost use Rattle.job_reports.specs.Refusals.{TellsUnread};
 ghost use Rattle.page_comparison.specs.Reading.{IsErrorOfPages, is_unread_error};
 ghost use Rattle.streams.specs.Source.{SourceState};
 
 use crate::asked::CompareAsked;
+use crate::found::Manner;
 use comparison::{Unread, Which};
 use job_reports::push_unread;
 use named_inputs::system_words::system_words;
@@ -100,26 +102,29 @@ pub(crate) fn name_by<'n>(asked: &CompareAsked<'_, 'n>, which: Which) -> &'n str
     }
 }
 
-/// Tells standard error why two jobs are not compared, where that is known of one of them.
+/// Tells standard error why two jobs are not compared in this manner, where that is known of one
+/// of them.
 pub(crate) fn tell_stop<E: Outlet>(
     alloc: Global,
     asked: &CompareAsked<'_, '_>,
+    manner: Manner,
     stop: &Stop,
     stderr: &mut E,
 ) -> Status
     requires error { IsErrorOfJob stop.now.error }
     requires stderr { IsFalse (E.state stderr.old).failed }
-    ensures { StopsAt (name_by (asked_for asked.now) stop.now.which) stop.now.error result
+    ensures { StopsAt manner (name_by (asked_for asked.now) stop.now.which) stop.now.error result
         (E.state stderr.old) (E.state stderr.new) }
 {
     let name = name_by(asked, stop.which);
     let cause = stop.cause.as_ref().map(|words| words.as_bytes());
-    tell_stop_of(alloc, name, stop.error, cause, stderr)
+    tell_stop_of(alloc, manner, name, stop.error, cause, stderr)
 }
 
 /// Tells standard error why the job of this name is not compared, where that is known.
 fn tell_stop_of<E: Outlet>(
     alloc: Global,
+    manner: Manner,
     name: &str,
     error: Error,
     cause: Option<&[u8]>,
@@ -127,24 +132,42 @@ fn tell_stop_of<E: Outlet>(
 ) -> Status
     requires error { IsErrorOfJob error }
     requires stderr { IsFalse (E.state stderr.old).failed }
-    ensures { StopsAt name.now error result (E.state stderr.old) (E.state stderr.new) }
+    ensures { StopsAt manner name.now error result (E.state stderr.old) (E.state stderr.new) }
 {
     match error {
         Error::Read => tell_cause(alloc, b"ERROR read job ", name, cause, stderr),
-        Error::Memory => tell_of_memory(alloc, name, cause, stderr),
+        Error::Memory => tell_of_memory(alloc, manner, name, cause, stderr),
         _ => Status::Stopped(error),
     }
 }
 
-/// Tells standard error what it is of a job for which there is no memory, where that is known.
+/// Tells standard error of a job for which there is no memory. Event by event no page of it is
+/// held, and nothing is told.
 fn tell_of_memory<E: Outlet>(
+    alloc: Global,
+    manner: Manner,
+    name: &str,
+    cause: Option<&[u8]>,
+    stderr: &mut E,
+) -> Status
+    requires { IsFalse (E.state stderr.old).failed }
+    ensures { LacksMemory manner name.now result (E.state stderr.old) (E.state stderr.new) }
+{
+    match manner {
+        Manner::ByEvents => Status::Stopped(Error::Memory),
+        Manner::ByPages { .. } => tell_of_page(alloc, name, cause, stderr),
+    }
+}
+
+/// Tells standard error which page of a job cannot be held, where that is known.
+fn tell_of_page<E: Outlet>(
     alloc: Global,
     name: &str,
     cause: Option<&[u8]>,
     stderr: &mut E,
 ) -> Status
     requires { IsFalse (E.state stderr.old).failed }
-    ensures { StopsAt name.now Error.Memory result (E.state stderr.old) (E.state stderr.new) }
+    ensures { TellsUnheld name.now result (E.state stderr.old) (E.state stderr.new) }
 {
     match cause {
         Some(_) => tell_cause(alloc, b"ERROR memory job ", name, cause, stderr),

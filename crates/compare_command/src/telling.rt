@@ -4,14 +4,17 @@ ghost use Rattle.std.specs.Prelude.{◌≡◌, ◌++◌, IfOk, OnOk, flat_map, m
 ghost use Rattle.compare_command.specs.Lines.{name_of};
 ghost use Rattle.compare_command.specs.Telling.{change_of, comparison_text, difference_of};
 ghost use Rattle.compare_command.specs.Telling.{difference_text, differences_text};
-ghost use Rattle.compare_command.specs.Telling.{failed, failure_text, found_text, judged};
-ghost use Rattle.compare_command.specs.Telling.{listed_text, more_part, more_text, pages_text};
-ghost use Rattle.compare_command.specs.Telling.{same_text, tells_more, told_by, unread};
+ghost use Rattle.compare_command.specs.Telling.{failed, failure_text, found_text, is_memory};
+ghost use Rattle.compare_command.specs.Telling.{is_unheld, is_words, judged, listed_text};
+ghost use Rattle.compare_command.specs.Telling.{more_part, more_text, pages_text, same_text};
+ghost use Rattle.compare_command.specs.Telling.{stop_told, tells_more, told_by, unread};
 
 use crate::found::{Found, Outcome};
 use crate::lines::{push_difference_line, push_more_line, push_same_line};
 use crate::objects::{push_difference_object, push_more_object, push_same_object};
-use crate::sentences::{push_difference_sentence, push_more_sentence, push_same_sentence};
+use crate::sentences::{
+    push_difference_sentence, push_more_sentence, push_same_sentence, push_unheld_sentence,
+};
 use comparison::{Change, Comparison, Difference};
 use job_reports::{PrinterGroup, Report, push_job_line, push_job_sentence};
 use many_jobs::push_job_object;
@@ -318,9 +321,60 @@ fn push_failure(
     push_report(alloc, text, form, &report)
 }
 
+/// Appends why the job of this name is not compared for printers of these names.
+pub(crate) fn push_stop(
+    alloc: Global,
+    text: &mut Vec<u8>,
+    form: Form,
+    names: &[Vec<u8>],
+    job: &str,
+    error: Error,
+    cause: Option<&[u8]>,
+) -> Result<(), AllocError>
+    ensures { OnOk result (text.new.items ≡ text.old.items
+        ++ stop_told form (map (λ name. name.items) names.now) job.now error
+        (option_map (λ words. words.now) cause.entry)) }
+{
+    if is_unheld(form, error) {
+        return push_unheld_sentence(alloc, text, job, cause);
+    }
+    push_unread(alloc, text, form, names, job, error, cause)
+}
+
+/// Whether a sentence tells that there is no memory for a job, or for a page of it.
+fn is_unheld(form: Form, error: Error) -> bool
+    ensures { result ≡ is_unheld form error }
+{
+    is_words(form) && is_memory(error)
+}
+
+fn is_words(form: Form) -> bool
+    ensures { result ≡ is_words form }
+{
+    match form {
+        Form::Line => false,
+        Form::Words => true,
+        Form::Json => false,
+        Form::Html => false,
+    }
+}
+
+fn is_memory(error: Error) -> bool
+    ensures { result ≡ is_memory error }
+{
+    match error {
+        Error::Memory => true,
+        Error::Read => false,
+        Error::Write => false,
+        Error::Turns => false,
+        Error::NoProfile => false,
+        Error::Items => false,
+    }
+}
+
 /// Appends that the job of this name has no verdict for printers of these names, as a check of many
 /// jobs tells it.
-pub(crate) fn push_unread(
+fn push_unread(
     alloc: Global,
     text: &mut Vec<u8>,
     form: Form,

@@ -1,11 +1,11 @@
 -- Which marks are near each other, what differs between two, and which overlap.
-use Rattle.std.specs.Prelude.{ℕ, pos, ◌*◌, ◌/◌, ◌+ℤ◌, ◌-ℤ◌, unsigned_abs, length, Bool, true, false, not, ◌&&◌}
+use Rattle.std.specs.Prelude.{ℕ, pos, ◌/◌, ◌+ℤ◌, ◌-ℤ◌, unsigned_abs, Bool, true, false, not, ◌&&◌}
 use Rattle.std.specs.Prelude.{int_lt, int_le, ℤ, if◌then◌else◌}
 use Rattle.page_env.specs.declared.mark.Bounds.{Bounds}
 use Rattle.page_env.specs.declared.mark.Fill.{Fill}
 use Rattle.page_env.specs.declared.mark.Fill.TheVariants.{Solid, Erase, Shade, Hatch}
 use Rattle.page_env.specs.declared.mark.PenLine.{PenLine}
-use Rattle.page_env.specs.Mark.{PixelRow, Shape, Rectangle, Character, Row, Line, pixel_of}
+use Rattle.page_env.specs.Mark.{PixelRow, Shape, Rectangle, Character, Row, Line, row_bounds}
 use Rattle.comparison.specs.Changes.{is_moved}
 use Rattle.comparison.specs.Nearness.{is_near_shape}
 use Rattle.page_comparison.specs.declared.differences.PageChange.{PageChange}
@@ -26,14 +26,9 @@ changed a b = if is_moved a.shape b.shape then Moved else Changed
 abbrev pub edges_of_box : Bounds → Edges
 edges_of_box box = record { left = box.left; top = box.top; right = box.right; bottom = box.bottom }
 
--- all of its bytes
+-- from its first black pixel to its last: white pixels at the ends of its bytes cover nothing
 abbrev pub edges_of_row : PixelRow → Edges
-edges_of_row row = record {
-  left = row.x;
-  top = row.y;
-  right = row.x +ℤ pos (length row.bytes * 8 * pixel_of row.resolution);
-  bottom = row.y +ℤ pos (pixel_of row.resolution);
-}
+edges_of_row row = edges_of_box (row_bounds row)
 
 abbrev pub lesser : ℤ → ℤ → ℤ
 lesser a b = if int_le a b then a else b

@@ -1,7 +1,8 @@
 //! The boxes of marks, and whether they overlap.
 
-ghost use Rattle.std.specs.Prelude.{◌≡◌, ◌*◌, ◌<◌, ◌^◌, ◌&&◌, ◌+ℤ◌, ◌-ℤ◌, int_lt, length, pos};
-ghost use Rattle.page_env.specs.Mark.{pixel_of};
+ghost use Rattle.std.specs.Prelude.{◌≡◌, ◌*◌, ◌<◌, ◌≤◌, ◌^◌, ◌&&◌, ◌+ℤ◌, ◌-ℤ◌, get_or, int_lt};
+ghost use Rattle.std.specs.Prelude.{pos};
+ghost use Rattle.page_env.specs.Mark.{black_end, pixel_of, white_ahead};
 ghost use Rattle.page_comparison.specs.Marks.{
   edges_of,
   edges_of_box,
@@ -57,17 +58,62 @@ fn ticks_of(edge: Length) -> i128
     i128::from(edge.ticks())
 }
 
-/// All bytes of a row.
+/// A row from its first black pixel to its last.
 fn edges_of_row<A: Allocator>(row: &OwnedRow<A>) -> Edges
     ensures { result ≡ edges_of_row (row_of_owned row.now) }
 {
-    let width = width_of(row.bytes.as_slice(), row.resolution);
+    let bytes = row.bytes.as_slice();
     let height = u64::from(pixel_of(row.resolution));
     Edges {
-        left: i128::from(row.x.ticks()),
+        left: black_left(row.x.ticks(), bytes, row.resolution),
         top: ticks_of(row.y),
-        right: right_of(row.x.ticks(), width),
+        right: black_right(row.x.ticks(), bytes, row.resolution),
         bottom: more(row.y.ticks(), height),
+    }
+}
+
+/// Where the black pixels of a row begin.
+fn black_left(left: i64, bytes: &[u8], resolution: Resolution) -> i128
+    ensures { result ≡ left +ℤ pos (white_ahead bytes.now * pixel_of resolution) }
+{
+    let width = width_of(white_ahead(bytes), resolution);
+    right_of(left, width)
+}
+
+/// Where the black pixels of a row end.
+fn black_right(left: i64, bytes: &[u8], resolution: Resolution) -> i128
+    ensures { result ≡ left +ℤ pos (black_end bytes.now * pixel_of resolution) }
+{
+    let width = width_of(black_end(bytes), resolution);
+    right_of(left, width)
+}
+
+/// How many pixels come before the first black one, where the first byte has one.
+fn white_ahead(bytes: &[u8]) -> u128
+    ensures value { result ≡ white_ahead bytes.now }
+    ensures small { result ≤ 8 }
+{
+    u128::from(first_byte(bytes).leading_zeros())
+}
+
+/// The first byte, or 0 where there is none.
+fn first_byte(bytes: &[u8]) -> u8
+    ensures { result ≡ get_or bytes.now 0 0 }
+{
+    match bytes {
+        [byte, ..] => *byte,
+        [] => 0,
+    }
+}
+
+/// How many pixels there are up to the last black one, where the last byte has one.
+fn black_end(bytes: &[u8]) -> u128
+    ensures value { result ≡ black_end bytes.now }
+    ensures small { result < 2 ^ 67 }
+{
+    match bytes {
+        [] => 0,
+        [.., last] => 8 * bytes.len() as u128 - u128::from(last.trailing_zeros()),
     }
 }
 
@@ -86,12 +132,12 @@ fn more(place: i64, by: u64) -> i128
     i128::from(place) + i128::from(by)
 }
 
-/// How far bytes of a row go.
-fn width_of(bytes: &[u8], resolution: Resolution) -> u128
-    ensures value { result ≡ length bytes.now * 8 * pixel_of resolution }
+/// How far so many pixels go.
+fn width_of(pixels: u128, resolution: Resolution) -> u128
+    requires { pixels < 2 ^ 67 }
+    ensures value { result ≡ pixels * pixel_of resolution }
     ensures small { result < 2 ^ 100 }
 {
-    let pixels = bytes.len() as u128 * 8;
     match resolution {
         Resolution::Dots75 => pixels * 487_680_000,
         Resolution::Dots100 => pixels * 365_760_000,

@@ -2,7 +2,7 @@ use Rattle.std.proofs.Common.{List, ap, inl, inr, map, refl, subst, ℕ}
 use Rattle.device_profile.specs.Printer.{Printer}
 use Rattle.sinks.specs.Counts.{no_counts}
 use Rattle.compare_command.specs.declared.found.Manner.{Manner}
-use Rattle.compare_command.specs.Compare.{AreCompared, WritesFound, asked_for, telling_of}
+use Rattle.compare_command.specs.Compare.{AreCompared, StopsAt, WritesFound, asked_for, name_by, telling_of}
 use Rattle.compare_command.specs.Outcomes.{same_counts, status_by}
 use Rattle.compare_command.specs.Telling.{found_text}
 use Rattle.compare_command.proofs.command.compare_on_printers.Goals as goal
@@ -34,4 +34,16 @@ returns-in-Ok g c =
 
 pub returns-in-Err : goal.returns-in-Err
 returns-in-Err g c =
-    inr ((c.in-Err.stop.which, c.in-Err.stop.error, c.in-Err.ensures.stopped, c.tell_stop.ensures), refl)
+    let stop = c.in-Err.stop in
+    inr (
+      (
+        stop.which,
+        stop.error,
+        c.in-Err.ensures.stopped,
+        subst
+            (λ (manner : Manner). StopsAt manner (name_by (asked_for c.args.asked.now) stop.which) stop.error c.tell_stop.result
+            (g.E.Outlet.state c.args.stderr.now) (g.E.Outlet.state c.tell_stop.new.stderr))
+            c.manner_of-manner.ensures c.tell_stop.ensures,
+      ),
+      refl,
+    )
