@@ -1,12 +1,13 @@
-/* Makes each call of the library on a job and its printers.
+/* Makes each call of the library on cases of a file: jobs, each with its printers.
  *
- *     library answers JOB PROFILE..   writes what each call answers
- *     library rooms JOB PROFILE..     tries rooms that are too short, just long enough, and longer
- *     library memory JOB PROFILE..    refuses each request for memory in turn
- *     library threads JOB PROFILE..   makes the calls on eight threads, each with its own fleet
+ *     library answers CASES     writes what each call answers
+ *     library rooms CASES       tries rooms that are too short, just long enough, and longer
+ *     library memory CASES      refuses each request for memory in turn
+ *     library threads CASES     makes the calls on eight threads, each with its own fleet
  *
- * What is wrong is told on standard error, and the status is 1. It is linked with the words
- * -Wl,--wrap=malloc,--wrap=realloc,--wrap=free, so that the library's requests are seen here.
+ * What is wrong is told on standard error, with the number of the case, and the status is 1. It is
+ * linked with the words -Wl,--wrap=malloc,--wrap=realloc,--wrap=free, so that the requests of the
+ * library are seen here.
  */
 #define _GNU_SOURCE
 #include "library_calls.h"
@@ -17,13 +18,13 @@
 #include <stdlib.h>
 #include <string.h>
 
-enum { THREADS = 8, TURNS = 4, UNTOUCHED = 0xa5, SOME_MORE = 33 };
+enum { THREADS = 8, TURNS = 2, MOST_CALLS = 32, UNTOUCHED = 0xa5, SOME_MORE = 33 };
 
 static int wrong;
 
-static void tell_wrong(const char *call, const char *what)
+static void tell_wrong(const struct subject *subject, const char *call, const char *what)
 {
-    fprintf(stderr, "%s: %s\n", call, what);
+    fprintf(stderr, "case %lu: %s: %s\n", subject->number, call, what);
     wrong = 1;
 }
 
@@ -87,7 +88,7 @@ static uint32_t make(const struct call *call, struct subject *subject, struct gu
         answer = call->make(subject, room->bytes, needed, &needed);
     }
     if (answer == PCLCHECK_ROOM || (answer == PCLCHECK_DONE && needed != room->length))
-        tell_wrong(call->name, "needs another room than it said");
+        tell_wrong(subject, call->name, "needs another room than it said");
     return answer;
 }
 
@@ -105,16 +106,7 @@ static void write_answer(const char *name, uint32_t answer, const struct subject
     fwrite(text.bytes, 1, text.length, stdout);
 }
 
-static void write_check(struct subject *subject)
-{
-    struct guarded none = guarded_room(0);
-    uint32_t answer = pclcheck_check(&subject->fleet, 0, subject->job.bytes, subject->job.length,
-                                     &subject->verdict);
-
-    write_answer("check", answer, subject, none);
-    guarded_free(none);
-}
-
+/* A fleet whose profile is refused has the printers before it. */
 static void write_answers(struct subject *subject)
 {
     struct guarded none = guarded_room(0);
@@ -122,12 +114,10 @@ static void write_answers(struct subject *subject)
 
     write_answer("fleet", answer, subject, none);
     guarded_free(none);
-    if (answer != PCLCHECK_DONE)
-        return;
-    write_check(subject);
     for (size_t at = 0; at < CALL_COUNT; at++) {
         struct guarded text;
         memset(&subject->verdict, 0, sizeof subject->verdict);
+        memset(&subject->refusal, 0, sizeof subject->refusal);
         answer = make(&CALLS[at], subject, &text);
         write_answer(CALLS[at].name, answer, subject, text);
         guarded_free(text);
@@ -156,18 +146,17 @@ static void try_room(const struct call *call, struct subject *subject, size_t si
     size_t told = fits ? due.length : 0;
 
     if (answer != (fits ? PCLCHECK_DONE : PCLCHECK_ROOM) || needed != due.length)
-        tell_wrong(call->name, "answers otherwise in another room");
+        tell_wrong(subject, call->name, "answers otherwise in another room");
     if (memcmp(room.bytes, due.bytes, told) != 0)
-        tell_wrong(call->name, "puts another text into another room");
+        tell_wrong(subject, call->name, "puts another text into another room");
     if (!is_untouched(room.bytes + told, size - told))
-        tell_wrong(call->name, "writes behind its text, or into a room that is too short");
+        tell_wrong(subject, call->name, "writes behind its text, or into a room that is too short");
     guarded_free(room);
 }
 
 static void try_rooms(struct subject *subject)
 {
-    if (subject_open(subject) != PCLCHECK_DONE)
-        return;
+    subject_open(subject);
     for (size_t at = 0; at < CALL_COUNT; at++) {
         struct guarded text;
         if (make(&CALLS[at], subject, &text) == PCLCHECK_DONE) {
@@ -186,7 +175,8 @@ static void try_rooms(struct subject *subject)
 static bool try_refused(const struct call *call, struct subject *subject, size_t number,
                         struct guarded room)
 {
-    struct pclcheck_verdict before = subject->verdict;
+    struct pclcheck_verdict verdict = subject->verdict;
+    struct pclcheck_refusal refusal = subject->refusal;
     size_t needed = SOME_MORE;
     long held_before = held;
     uint32_t answer;
@@ -197,18 +187,19 @@ static bool try_refused(const struct call *call, struct subject *subject, size_t
     was_refused = asked >= number;
     refuse(0);
     if (held != held_before)
-        tell_wrong(call->name, "keeps memory, or frees what is not its own");
+        tell_wrong(subject, call->name, "keeps memory, or frees what is not its own");
     if (!was_refused)
         return false;
     if (answer != PCLCHECK_MEMORY)
-        tell_wrong(call->name, "does not tell that memory was refused");
+        tell_wrong(subject, call->name, "does not tell that memory was refused");
     if (needed != SOME_MORE || !is_untouched(room.bytes, room.length)
-        || memcmp(&before, &subject->verdict, sizeof before) != 0)
-        tell_wrong(call->name, "writes where memory was refused");
+        || memcmp(&verdict, &subject->verdict, sizeof verdict) != 0
+        || memcmp(&refusal, &subject->refusal, sizeof refusal) != 0)
+        tell_wrong(subject, call->name, "writes where memory was refused");
     return true;
 }
 
-/* Makes the fleet with each request refused in turn. */
+/* Makes the fleet with each request refused in turn, and at last with none. */
 static void open_refused(struct subject *subject)
 {
     uint32_t answer = PCLCHECK_MEMORY;
@@ -218,26 +209,23 @@ static void open_refused(struct subject *subject)
         refuse(number);
         answer = subject_open(subject);
         refuse(0);
-        if (answer == PCLCHECK_MEMORY && subject->fleet.at != NULL)
-            pclcheck_fleet_free(&subject->fleet);
-        if (answer == PCLCHECK_MEMORY && held != held_before)
-            tell_wrong("fleet", "keeps memory, or frees what is not its own");
+        if (answer != PCLCHECK_MEMORY)
+            return;
+        subject_close(subject);
+        if (held != held_before)
+            tell_wrong(subject, "fleet", "keeps memory, or frees what is not its own");
     }
-    if (answer != PCLCHECK_DONE && subject->fleet.at != NULL)
-        pclcheck_fleet_free(&subject->fleet);
 }
 
 static void try_memory(struct subject *subject)
 {
     open_refused(subject);
-    if (subject->fleet.at == NULL)
-        return;
     for (size_t at = 0; at < CALL_COUNT; at++) {
         struct guarded text, room;
         size_t number = 1;
-        uint32_t answer = make(&CALLS[at], subject, &text);
+        make(&CALLS[at], subject, &text);
         room = guarded_room(text.length);
-        while (answer == PCLCHECK_DONE && try_refused(&CALLS[at], subject, number, room))
+        while (try_refused(&CALLS[at], subject, number, room))
             number++;
         guarded_free(room);
         guarded_free(text);
@@ -247,76 +235,93 @@ static void try_memory(struct subject *subject)
 /* ---- threads */
 
 struct work {
-    char **paths;
-    int count;
-    struct guarded due[32];
+    struct subject subject;     /* its texts are those of all threads */
+    const struct guarded *due;  /* the text of each call */
     bool differs;
 };
 
 static void *make_calls(void *given)
 {
     struct work *work = given;
-    struct subject subject;
 
-    subject_read(&subject, work->paths, work->count);
-    if (subject_open(&subject) == PCLCHECK_DONE) {
-        for (size_t turn = 0; turn < TURNS * CALL_COUNT; turn++) {
-            const struct guarded *due = &work->due[turn % CALL_COUNT];
-            struct guarded text;
-            make(&CALLS[turn % CALL_COUNT], &subject, &text);
-            if (text.length != due->length || memcmp(text.bytes, due->bytes, text.length) != 0)
-                work->differs = true;
-            guarded_free(text);
-        }
+    subject_open(&work->subject);
+    for (size_t turn = 0; turn < TURNS * CALL_COUNT; turn++) {
+        const struct guarded *due = &work->due[turn % CALL_COUNT];
+        struct guarded text;
+        make(&CALLS[turn % CALL_COUNT], &work->subject, &text);
+        if (text.length != due->length || memcmp(text.bytes, due->bytes, text.length) != 0)
+            work->differs = true;
+        guarded_free(text);
     }
-    subject_free(&subject);
+    subject_close(&work->subject);
     work->differs |= held != 0;
     return NULL;
 }
 
-static void try_threads(struct subject *subject, char *paths[], int count)
+static void run_threads(struct subject *subject, const struct guarded *due)
 {
     static struct work works[THREADS];
     pthread_t threads[THREADS];
-    struct work first = {paths, count, {{NULL, 0}}, false};
 
-    if (subject_open(subject) != PCLCHECK_DONE)
-        return;
-    for (size_t at = 0; at < CALL_COUNT; at++)
-        make(&CALLS[at], subject, &first.due[at]);
     for (int at = 0; at < THREADS; at++) {
-        works[at] = first;
+        works[at] = (struct work){*subject, due, false};
+        works[at].subject.fleet.at = NULL;
         if (pthread_create(&threads[at], NULL, make_calls, &works[at]) != 0)
             exit(2);
     }
     for (int at = 0; at < THREADS; at++) {
         pthread_join(threads[at], NULL);
         if (works[at].differs)
-            tell_wrong("threads", "a text differs, or something is not freed");
+            tell_wrong(subject, "threads", "a text differs, or something is not freed");
     }
+}
+
+static void try_threads(struct subject *subject)
+{
+    struct guarded due[MOST_CALLS];
+
+    subject_open(subject);
     for (size_t at = 0; at < CALL_COUNT; at++)
-        guarded_free(first.due[at]);
+        make(&CALLS[at], subject, &due[at]);
+    run_threads(subject, due);
+    for (size_t at = 0; at < CALL_COUNT; at++)
+        guarded_free(due[at]);
+}
+
+/* ---- modes */
+
+static const struct mode {
+    const char *name;
+    void (*of_case)(struct subject *subject);
+} MODES[] = {
+    {"answers", write_answers}, {"rooms", try_rooms}, {"memory", try_memory},
+    {"threads", try_threads}
+};
+
+static const struct mode *mode_of(const char *name)
+{
+    for (size_t at = 0; at < sizeof MODES / sizeof *MODES; at++) {
+        if (strcmp(MODES[at].name, name) == 0)
+            return &MODES[at];
+    }
+    return NULL;
 }
 
 int main(int argc, char *argv[])
 {
-    struct subject subject;
+    static struct subject subject;
+    const struct mode *mode = argc == 3 ? mode_of(argv[1]) : NULL;
+    FILE *file = mode == NULL ? NULL : fopen(argv[2], "rb");
 
-    if (argc < 4)
+    if (file == NULL || CALL_COUNT > MOST_CALLS)
         return 2;
-    subject_read(&subject, argv + 2, argc - 2);
-    if (strcmp(argv[1], "answers") == 0)
-        write_answers(&subject);
-    else if (strcmp(argv[1], "rooms") == 0)
-        try_rooms(&subject);
-    else if (strcmp(argv[1], "memory") == 0)
-        try_memory(&subject);
-    else if (strcmp(argv[1], "threads") == 0)
-        try_threads(&subject, argv + 2, argc - 2);
-    else
-        return 2;
-    subject_free(&subject);
-    if (held != 0)
-        tell_wrong(argv[1], "something of the fleet is not freed");
+    while (subject_read(&subject, file)) {
+        long held_before = held;
+        mode->of_case(&subject);
+        subject_free(&subject);
+        if (held != held_before)
+            tell_wrong(&subject, mode->name, "something of the fleet is not freed");
+    }
+    fclose(file);
     return wrong;
 }

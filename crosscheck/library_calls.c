@@ -1,4 +1,4 @@
-/* Each call of the library that puts a text, on one job and its printers. */
+/* Each call of the library on one job and its printers. */
 #define _GNU_SOURCE
 #include "library_calls.h"
 
@@ -44,38 +44,67 @@ void guarded_free(struct guarded guarded)
     munmap(guarded.bytes + guarded.length + page - whole, whole);
 }
 
-struct guarded guarded_file(const char *path)
-{
-    FILE *file = fopen(path, "rb");
-    struct guarded read;
-    long length;
-
-    if (file == NULL || fseek(file, 0, SEEK_END) != 0 || (length = ftell(file)) < 0)
-        stop(path);
-    rewind(file);
-    read = guarded_room((size_t)length);
-    if (fread(read.bytes, 1, read.length, file) != read.length)
-        stop(path);
-    fclose(file);
-    return read;
-}
-
 /* ---- subjects */
 
-void subject_read(struct subject *subject, char *paths[], int count)
+static size_t read_number(FILE *file)
 {
+    size_t number;
+
+    if (fscanf(file, "%zu", &number) != 1)
+        stop("a case without its numbers");
+    return number;
+}
+
+static size_t read_count(FILE *file, size_t most)
+{
+    size_t count = read_number(file);
+
+    if (count > most)
+        stop("a case with too much");
+    return count;
+}
+
+static struct guarded read_text(FILE *file, size_t length)
+{
+    struct guarded text = guarded_room(length);
+
+    if (fread(text.bytes, 1, length, file) != length)
+        stop("a case without its texts");
+    return text;
+}
+
+bool subject_read(struct subject *subject, FILE *file)
+{
+    size_t lengths[MOST_PRINTERS + 3] = {0}, count;
+
     memset(subject, 0, sizeof *subject);
-    subject->job = guarded_file(paths[0]);
-    for (int at = 1; at < count && subject->printers < MOST_PRINTERS; at++)
-        subject->profiles[subject->printers++] = guarded_file(paths[at]);
+    if (fscanf(file, "%lu", &subject->number) != 1)
+        return false;
+    subject->page = read_number(file);
+    subject->value_count = read_count(file, MOST_VALUES);
+    for (size_t at = 0; at < subject->value_count; at++) {
+        subject->values[at].field = (uint32_t)read_number(file);
+        subject->values[at].value = (uint32_t)read_number(file);
+    }
+    count = read_count(file, MOST_PRINTERS + 3);
+    for (size_t at = 0; at < count; at++)
+        lengths[at] = read_number(file);
+    getc(file);
+    subject->code = read_text(file, lengths[0]);
+    subject->name = read_text(file, lengths[1]);
+    subject->job = read_text(file, lengths[2]);
+    for (size_t at = 3; at < count; at++)
+        subject->profiles[subject->profile_count++] = read_text(file, lengths[at]);
+    return true;
 }
 
 void subject_free(struct subject *subject)
 {
-    if (subject->fleet.at != NULL)
-        pclcheck_fleet_free(&subject->fleet);
-    for (size_t at = 0; at < subject->printers; at++)
+    subject_close(subject);
+    for (size_t at = 0; at < subject->profile_count; at++)
         guarded_free(subject->profiles[at]);
+    guarded_free(subject->code);
+    guarded_free(subject->name);
     guarded_free(subject->job);
 }
 
@@ -83,15 +112,22 @@ uint32_t subject_open(struct subject *subject)
 {
     uint32_t answer = pclcheck_fleet_new(&subject->fleet);
 
-    for (size_t at = 0; answer == PCLCHECK_DONE && at < subject->printers; at++)
+    subject->printers = 0;
+    for (size_t at = 0; answer == PCLCHECK_DONE && at < subject->profile_count; at++) {
         answer = pclcheck_fleet_add(&subject->fleet, subject->profiles[at].bytes,
                                     subject->profiles[at].length, &subject->refusal);
+        subject->printers += answer == PCLCHECK_DONE;
+    }
     return answer;
 }
 
-/* ---- calls */
+void subject_close(struct subject *subject)
+{
+    if (subject->fleet.at != NULL)
+        pclcheck_fleet_free(&subject->fleet);
+}
 
-static const uint8_t NAME[] = {'j', 'o', 'b'};
+/* ---- calls */
 
 static uint32_t version(struct subject *subject, uint8_t *text, size_t room, size_t *needed)
 {
@@ -101,10 +137,7 @@ static uint32_t version(struct subject *subject, uint8_t *text, size_t room, siz
 
 static uint32_t explain(struct subject *subject, uint8_t *text, size_t room, size_t *needed)
 {
-    static const uint8_t CODE[] = {'1', '2'};
-
-    (void)subject;
-    return pclcheck_explain(CODE, sizeof CODE, text, room, needed);
+    return pclcheck_explain(subject->code.bytes, subject->code.length, text, room, needed);
 }
 
 static uint32_t unheard(struct subject *subject, uint8_t *text, size_t room, size_t *needed)
@@ -121,15 +154,37 @@ static uint32_t printer_name(struct subject *subject, uint8_t *text, size_t room
 /* A job is no profile, so that each has its faults. */
 static uint32_t faults(struct subject *subject, uint8_t *text, size_t room, size_t *needed)
 {
-    return pclcheck_faults(NAME, sizeof NAME, subject->job.bytes, subject->job.length, text, room,
-                           needed);
+    return pclcheck_faults(subject->name.bytes, subject->name.length, subject->job.bytes,
+                           subject->job.length, text, room, needed);
+}
+
+static uint32_t lint(struct subject *subject, uint8_t *text, size_t room, size_t *needed)
+{
+    static const uint8_t PATH[] = {'p', '0'};
+
+    return pclcheck_faults(PATH, sizeof PATH, subject->profiles[0].bytes,
+                           subject->profiles[0].length, text, room, needed);
+}
+
+/* Puts nothing. */
+static uint32_t check(struct subject *subject, uint8_t *text, size_t room, size_t *needed)
+{
+    uint32_t answer = pclcheck_check(&subject->fleet, 0, subject->job.bytes, subject->job.length,
+                                     &subject->verdict);
+
+    (void)text;
+    (void)room;
+    if (answer == PCLCHECK_DONE)
+        *needed = 0;
+    return answer;
 }
 
 static uint32_t tell_of(struct subject *subject, size_t printer, uint8_t *text, size_t room,
                         size_t *needed)
 {
-    return pclcheck_tell(&subject->fleet, printer, NAME, sizeof NAME, subject->job.bytes,
-                         subject->job.length, &subject->verdict, text, room, needed);
+    return pclcheck_tell(&subject->fleet, printer, subject->name.bytes, subject->name.length,
+                         subject->job.bytes, subject->job.length, &subject->verdict, text, room,
+                         needed);
 }
 
 static uint32_t tell(struct subject *subject, uint8_t *text, size_t room, size_t *needed)
@@ -152,36 +207,110 @@ static uint32_t tell_none(struct subject *subject, uint8_t *text, size_t room, s
     return tell_of(subject, subject->printers + 1, text, room, needed);
 }
 
-/* Feeds the job in pieces of this length. Pieces behind the verdict change nothing. */
-static void feed_pieces(struct subject *subject, struct pclcheck_session *session, size_t length)
+/* Their bytes may differ where no field lies. */
+static bool is_same(const struct pclcheck_verdict *one, const struct pclcheck_verdict *other)
 {
+    return one->pages == other->pages && one->marks == other->marks && one->place == other->place
+           && one->printer == other->printer && one->page == other->page
+           && one->number == other->number;
+}
+
+/* Feeds the job in pieces of this length; false where one behind the verdict is answered otherwise
+ * than the one that decided it. */
+static bool feed_pieces(struct subject *subject, struct pclcheck_session *session, size_t length)
+{
+    uint32_t answer = PCLCHECK_DONE;
     size_t at = 0;
 
     do {
         size_t rest = subject->job.length - at;
         size_t piece = rest < length ? rest : length;
-        pclcheck_session_feed(&subject->fleet, session, subject->job.bytes + at, piece);
+        uint32_t before = answer;
+        answer = pclcheck_session_feed(&subject->fleet, session, subject->job.bytes + at, piece);
+        if (before != PCLCHECK_DONE && answer != before)
+            return false;
         at += piece;
     } while (at < subject->job.length);
+    return true;
+}
+
+/* Whether a session that is over tells this again, whatever it is fed. */
+static bool stays_over(struct subject *subject, struct pclcheck_session *session, size_t length,
+                       uint8_t *text)
+{
+    struct pclcheck_verdict verdict = {0};
+    size_t needed = 0;
+    uint32_t fed = pclcheck_session_feed(&subject->fleet, session, subject->name.bytes,
+                                         subject->name.length);
+    uint32_t ended = pclcheck_session_end(&subject->fleet, session, &verdict);
+    uint32_t told = pclcheck_session_tell(&subject->fleet, session, subject->name.bytes,
+                                          subject->name.length, &verdict, text, 0, &needed);
+
+    return fed == PCLCHECK_JUDGED && ended == PCLCHECK_DONE && told == PCLCHECK_ROOM
+           && needed == length && is_same(&verdict, &subject->verdict);
+}
+
+/* Ends a session: its end and its sentence have to tell the same, and again. */
+static uint32_t tell_end(struct subject *subject, struct pclcheck_session *session,
+                         uint8_t *text, size_t room, size_t *needed)
+{
+    struct pclcheck_verdict verdict = {0};
+    uint32_t ended = pclcheck_session_end(&subject->fleet, session, &verdict);
+    uint32_t answer = pclcheck_session_tell(&subject->fleet, session, subject->name.bytes,
+                                            subject->name.length, &subject->verdict, text, room,
+                                            needed);
+
+    if (answer != PCLCHECK_DONE && answer != PCLCHECK_ROOM)
+        return answer;
+    if (ended != PCLCHECK_DONE || !is_same(&verdict, &subject->verdict)
+        || !stays_over(subject, session, *needed, text))
+        return PCLCHECK_STOPPED;
+    return answer;
 }
 
 static uint32_t tell_pieces(struct subject *subject, size_t length, uint8_t *text, size_t room,
                             size_t *needed)
 {
     struct pclcheck_session session = {0};
-    struct pclcheck_verdict verdict = subject->verdict;
-    uint32_t answer = pclcheck_session_new(&subject->fleet, 0, &session), ended;
+    uint32_t answer = pclcheck_session_new(&subject->fleet, 0, &session);
 
     if (answer != PCLCHECK_DONE)
         return answer;
-    feed_pieces(subject, &session, length);
-    ended = pclcheck_session_end(&subject->fleet, &session, &verdict);
-    answer = pclcheck_session_tell(&subject->fleet, &session, NAME, sizeof NAME,
-                                   &subject->verdict, text, room, needed);
-    if (answer == PCLCHECK_DONE
-        && (ended != PCLCHECK_DONE || memcmp(&verdict, &subject->verdict, sizeof verdict) != 0))
-        answer = PCLCHECK_STOPPED;
+    answer = PCLCHECK_STOPPED;
+    if (feed_pieces(subject, &session, length))
+        answer = tell_end(subject, &session, text, room, needed);
     pclcheck_session_free(&session);
+    return answer;
+}
+
+/* Feeds the job to the session of one printer, and between its halves to that of all. */
+static uint32_t tell_between(struct subject *subject, struct pclcheck_session *all,
+                             struct pclcheck_session *first, uint8_t *text, size_t room,
+                             size_t *needed)
+{
+    size_t half = subject->job.length / 2;
+    const uint8_t *bytes = subject->job.bytes;
+    uint32_t fed;
+
+    pclcheck_session_feed(&subject->fleet, first, bytes, half);
+    fed = pclcheck_session_feed(&subject->fleet, all, bytes, subject->job.length);
+    pclcheck_session_feed(&subject->fleet, first, bytes + half, subject->job.length - half);
+    return fed == PCLCHECK_MEMORY ? fed : tell_end(subject, first, text, room, needed);
+}
+
+static uint32_t tell_second(struct subject *subject, uint8_t *text, size_t room, size_t *needed)
+{
+    struct pclcheck_session all = {0}, first = {0};
+    uint32_t answer = pclcheck_session_new(&subject->fleet, 0, &all);
+
+    if (answer != PCLCHECK_DONE)
+        return answer;
+    answer = pclcheck_session_new(&subject->fleet, 1, &first);
+    if (answer == PCLCHECK_DONE) {
+        answer = tell_between(subject, &all, &first, text, room, needed);
+        pclcheck_session_free(&first);
+    }
+    pclcheck_session_free(&all);
     return answer;
 }
 
@@ -204,17 +333,17 @@ static uint32_t tell_blocks(struct subject *subject, uint8_t *text, size_t room,
 static uint32_t tell_limited(struct subject *subject, uint8_t *text, size_t room, size_t *needed)
 {
     struct pclcheck_fleet fleet = {0};
-    struct pclcheck_refusal refusal;
     uint32_t answer = pclcheck_fleet_new(&fleet);
 
     if (answer != PCLCHECK_DONE)
         return answer;
     pclcheck_fleet_limit(&fleet, 10);
     answer = pclcheck_fleet_add(&fleet, subject->profiles[0].bytes, subject->profiles[0].length,
-                                &refusal);
+                                &subject->refusal);
     if (answer == PCLCHECK_DONE)
-        answer = pclcheck_tell(&fleet, 0, NAME, sizeof NAME, subject->job.bytes,
-                               subject->job.length, &subject->verdict, text, room, needed);
+        answer = pclcheck_tell(&fleet, 0, subject->name.bytes, subject->name.length,
+                               subject->job.bytes, subject->job.length, &subject->verdict, text,
+                               room, needed);
     pclcheck_fleet_free(&fleet);
     return answer;
 }
@@ -248,8 +377,18 @@ static uint32_t pages(struct subject *subject, uint8_t *text, size_t room, size_
 static uint32_t picture_of(struct subject *subject, uint64_t page, uint8_t *text, size_t room,
                            size_t *needed)
 {
-    return pclcheck_picture(subject->profiles[0].bytes, subject->profiles[0].length, NAME,
-                            sizeof NAME, page, subject->job.bytes, subject->job.length,
+    return pclcheck_picture(subject->profiles[0].bytes, subject->profiles[0].length,
+                            subject->name.bytes, subject->name.length, page, subject->job.bytes,
+                            subject->job.length, &subject->refusal, text, room, needed);
+}
+
+/* The name is no UTF-8. */
+static uint32_t unnamed(struct subject *subject, uint8_t *text, size_t room, size_t *needed)
+{
+    static const uint8_t NO_TEXT[] = {'a', 0xff};
+
+    return pclcheck_picture(subject->profiles[0].bytes, subject->profiles[0].length, NO_TEXT,
+                            sizeof NO_TEXT, 1, subject->job.bytes, subject->job.length,
                             &subject->refusal, text, room, needed);
 }
 
@@ -258,9 +397,9 @@ static uint32_t all_pages(struct subject *subject, uint8_t *text, size_t room, s
     return picture_of(subject, 0, text, room, needed);
 }
 
-static uint32_t first_page(struct subject *subject, uint8_t *text, size_t room, size_t *needed)
+static uint32_t one_page(struct subject *subject, uint8_t *text, size_t room, size_t *needed)
 {
-    return picture_of(subject, 1, text, room, needed);
+    return picture_of(subject, subject->page, text, room, needed);
 }
 
 static uint32_t pin_to(struct subject *subject, const struct pclcheck_panel_value *values,
@@ -278,11 +417,9 @@ static uint32_t pin(struct subject *subject, uint8_t *text, size_t room, size_t 
     return pin_to(subject, NONE, 0, text, room, needed);
 }
 
-static uint32_t pin_copies(struct subject *subject, uint8_t *text, size_t room, size_t *needed)
+static uint32_t pin_chosen(struct subject *subject, uint8_t *text, size_t room, size_t *needed)
 {
-    static const struct pclcheck_panel_value COPIES[] = {{5, 2}};
-
-    return pin_to(subject, COPIES, 1, text, room, needed);
+    return pin_to(subject, subject->values, subject->value_count, text, room, needed);
 }
 
 static uint32_t pin_nothing(struct subject *subject, uint8_t *text, size_t room, size_t *needed)
@@ -294,11 +431,12 @@ static uint32_t pin_nothing(struct subject *subject, uint8_t *text, size_t room,
 
 const struct call CALLS[] = {
     {"version", version}, {"explain", explain}, {"unheard", unheard},
-    {"printer-name", printer_name}, {"faults", faults}, {"tell", tell}, {"tell-first", tell_first},
-    {"tell-last", tell_last}, {"tell-none", tell_none}, {"pieces-1", tell_bytes},
-    {"pieces-7", tell_sevens}, {"pieces-4096", tell_blocks}, {"limit-10", tell_limited},
-    {"list", list}, {"plain", plain},
-    {"notes", notes}, {"pages", pages}, {"picture-all", all_pages}, {"picture-1", first_page},
-    {"pin", pin}, {"pin-copies", pin_copies}, {"pin-nothing", pin_nothing}
+    {"printer-name", printer_name}, {"faults", faults}, {"lint", lint}, {"check", check},
+    {"tell", tell}, {"tell-first", tell_first}, {"tell-last", tell_last},
+    {"tell-none", tell_none}, {"pieces-1", tell_bytes}, {"pieces-7", tell_sevens},
+    {"pieces-4096", tell_blocks}, {"second", tell_second}, {"limit-10", tell_limited},
+    {"list", list}, {"plain", plain}, {"notes", notes}, {"pages", pages},
+    {"picture-all", all_pages}, {"picture-one", one_page}, {"unnamed", unnamed}, {"pin", pin},
+    {"pin-chosen", pin_chosen}, {"pin-nothing", pin_nothing}
 };
 const size_t CALL_COUNT = sizeof CALLS / sizeof *CALLS;
