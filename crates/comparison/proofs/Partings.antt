@@ -74,6 +74,14 @@ count_more old mid new spot spot_mid spot' one other = (
       (other.2 printer panel first now (made ++ one.0) (one.2 printer panel first now made h)),
 )
 
+-- by a step, behind a look for lines that found none
+pub count_step : (first old mid new : RunState) (spot_first spot spot_mid spot' : Spot) → mid ≡ old → spot_mid ≡ spot →
+    CountsOn first old spot_first spot → CountsOn mid new spot_mid spot' → CountsOn first new spot_first spot'
+count_step first old mid new spot_first spot spot_mid spot' same spot_same so_far counts =
+    count_more first old new spot_first spot spot' so_far
+    (subst (λ (s : RunState). CountsOn s new spot spot') same
+    (subst (λ (s : Spot). CountsOn mid new s spot') spot_same counts))
+
 module _ (old : RunState) (lexer : LexerState) (machine : MachineState) (kept : List Event) (running : is_open old.progress ≡ true)
     (ended : lexer.ended ≡ old.lexer.ended) (spot spot' : Spot) where
   abbrev after : Stepped → RunState
@@ -126,6 +134,12 @@ lines_counted lines look from old new spot spot' next passes counted_are =
 
 pub sooner_read : (a b c : ℕ) → a < b → b ≤ c → a < c
 sooner_read a b c first second = omega arith
+
+pub at_most : (a b c : ℕ) → a ≤ b → b ≤ c → a ≤ c
+at_most a b c first second = omega arith
+
+pub less_at_most : (a b c : ℕ) → a < b → b ≤ c → a ≤ c
+less_at_most a b c first second = omega arith
 
 -- ---- both
 

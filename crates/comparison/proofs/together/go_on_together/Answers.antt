@@ -1,4 +1,4 @@
-use Rattle.std.proofs.Common.{◌≡◌, ◌<◌, ◌≤◌, ap, arith, subst, Ok, true, ◌∙◌}
+use Rattle.std.proofs.Common.{◌<◌, ap, Ok, ◌∙◌}
 use Rattle.std.proofs.lemmas.Result.{IfOk-weaker, on_ok_weaker}
 use Rattle.comparison.specs.Running.{work}
 use Rattle.comparison.specs.Together.{StandBehind}
@@ -6,7 +6,7 @@ use Rattle.comparison.proofs.Partings.{sooner_read, stand_further, stand_on}
 use Rattle.comparison.proofs.together.go_on_together.Goals as goal
 
 pub read_both-requires-clause-waits : goal.read_both-requires-clause-waits
-read_both-requires-clause-waits g c = c.count_fed.ensures.waits (c.in-Ok-true.is ∙ ap Ok c.in-Ok-true.field-0-is)
+read_both-requires-clause-waits g c = c.count_fed.ensures.waits (c.in-Ok-true.is ∙ ap Ok c.in-Ok-true.field-0-test)
 
 pub returns-in-Ok-true-clause-stand : goal.returns-in-Ok-true-clause-stand
 returns-in-Ok-true-clause-stand g c =
@@ -38,4 +38,4 @@ returns-in-Ok-false-clause-stand g c =
 
 pub returns-in-Ok-false-clause-less : goal.returns-in-Ok-false-clause-less
 returns-in-Ok-false-clause-less g c =
-    c.count_fed.ensures.less (c.in-Ok-false.is ∙ ap Ok c.in-Ok-false.field-0-is) c.requires.running
+    c.count_fed.ensures.less (c.in-Ok-false.is ∙ ap Ok c.in-Ok-false.field-0-test) c.requires.running

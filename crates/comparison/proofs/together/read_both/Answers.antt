@@ -13,8 +13,8 @@ returns-in-Ok-None-clause-stand g c = λ spot.
     let run' : RunState = c.take_of_both.new.both in
     both_read (g.S.Source.state c.args.old_job.now) old_now' (g.T.Source.state c.args.new_job.now) new_now' piece other
     c.in-Ok.ensures.read.given c.in-Ok-read.ensures.read.given c.in-Ok.ensures.read.bytes.0 c.in-Ok-read.ensures.read.bytes.0
-    (over_by c.read.new.buf c.in-Ok.count old_now'.remaining c.in-Ok.ensures.bound (search rules) c.in-Ok.ensures.read.bytes.1)
-    (over_by c.read-2.new.buf c.in-Ok-read.new_count new_now'.remaining c.in-Ok-read.ensures.bound (search rules)
+    (over_by c.read.new.buf c.in-Ok.count old_now'.remaining c.in-Ok.ensures.bound.0 (search rules) c.in-Ok.ensures.read.bytes.1)
+    (over_by c.read-2.new.buf c.in-Ok-read.new_count new_now'.remaining c.in-Ok-read.ensures.bound.0 (search rules)
     c.in-Ok-read.ensures.read.bytes.1)
     c.args.both.now run' spot
     (subst (λ r. IfOk r (λ (parted : Option RunState). TakenOfBoth piece other c.args.both.now run' parted))
@@ -29,8 +29,8 @@ returns-in-Ok-Some-clause-stand g c = λ spot.
     let run' : RunState = c.take_of_both.new.both in
     parted_read (g.S.Source.state c.args.old_job.now) old_now' (g.T.Source.state c.args.new_job.now) new_now' piece other
     c.in-Ok.ensures.read.given c.in-Ok-read.ensures.read.given c.in-Ok.ensures.read.bytes.0 c.in-Ok-read.ensures.read.bytes.0
-    (over_by c.read.new.buf c.in-Ok.count old_now'.remaining c.in-Ok.ensures.bound (search rules) c.in-Ok.ensures.read.bytes.1)
-    (over_by c.read-2.new.buf c.in-Ok-read.new_count new_now'.remaining c.in-Ok-read.ensures.bound (search rules)
+    (over_by c.read.new.buf c.in-Ok.count old_now'.remaining c.in-Ok.ensures.bound.0 (search rules) c.in-Ok.ensures.read.bytes.1)
+    (over_by c.read-2.new.buf c.in-Ok-read.new_count new_now'.remaining c.in-Ok-read.ensures.bound.0 (search rules)
     c.in-Ok-read.ensures.read.bytes.1)
     c.args.both.now run' spot c.in-Ok-Some.second c.behind.result
     (subst (λ r. IfOk r (λ (parted : Option RunState). TakenOfBoth piece other c.args.both.now run' parted))

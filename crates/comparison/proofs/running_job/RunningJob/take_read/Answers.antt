@@ -1,4 +1,5 @@
-use Rattle.std.proofs.Common.{arith, nat_tests}
+use Rattle.std.proofs.Common.{arith}
+use Rattle.std.proofs.lemmas.Bool.Decides.{nat_tests}
 use Rattle.std.proofs.lemmas.List.{nil_from_length}
 use Rattle.comparison.proofs.Running.{read_ended, read_taken}
 use Rattle.comparison.proofs.running_job.RunningJob.take_read.Goals as goal
