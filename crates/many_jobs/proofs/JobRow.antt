@@ -100,7 +100,8 @@ module _ (group : Groups) (telling : HowTold) (start : SourceState) (job : List 
   HasRead notes near page ended ended' =
       (row : RowRead) × IsRightlyNoted write_note start (note_printer (verdict_told answer) group.note_printers) row.noted
       × IsReread (near_of_job telling job answer) start row.near × IsReread (page_of_job telling group job answer) start row.page
-      × (parts_with telling job (verdict_told answer) notes near page ≡ parts_of telling job (verdict_told answer) row.noted row.near row.page)
+      × (parts_with telling job (verdict_told answer) notes near page
+      ≡ parts_of telling job (verdict_told answer) row.noted row.near row.page)
       × (ended' ≡ ended ++ row_afters job row.noted row.near row.page) × (ending_of_kept notes ≡ ending_of_noted row.noted)
 
   pub has_read : (notes near page : Option (Result (List ℕ) Error)) (ended first second third : List JobRead) →

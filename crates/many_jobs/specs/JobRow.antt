@@ -1,6 +1,6 @@
 -- What further readings of a job tell in its row, in a document of many jobs.
-use Rattle.std.specs.Prelude.{◌≡◌, ◌-◌, ◌&&◌, ◌||◌, nat_le, nat_lt, ℕ, Bool, true, false, List, [], ◌∷◌, ◌++◌, slice_get}
-use Rattle.std.specs.Prelude.{option_map, Option, None, Some, Result, Ok, Err, IfOk, IfErr, ⊤, if◌then◌else◌}
+use Rattle.std.specs.Prelude.{◌≡◌, ◌-◌, ◌&&◌, ◌||◌, nat_le, nat_lt, ℕ, Bool, true, false, List, [], ◌∷◌, ◌++◌}
+use Rattle.std.specs.Prelude.{slice_get, option_map, Option, None, Some, Result, Ok, Err, IfOk, IfErr, ⊤, if◌then◌else◌}
 use Rattle.std.specs.List.{list_any}
 use Rattle.std.specs.Str.{bytes_eq}
 use Rattle.pcl_items.specs.Items.{Placed}

@@ -11,8 +11,9 @@ ghost use Rattle.many_requests.specs.Documents.{WritesDocument};
 ghost use Rattle.many_requests.specs.Documents.{WritesDocuments, WritesIfSound, WritesPdf};
 ghost use Rattle.many_requests.specs.Documents.{cause_of, document_text, end_with, has_errors};
 ghost use Rattle.many_requests.specs.Documents.{ends_in_pdf, has_lines, has_same_part, is_named_in};
-ghost use Rattle.many_requests.specs.Documents.{is_namesake, is_quiet, is_taken, is_told, is_written};
-ghost use Rattle.many_requests.specs.Documents.{lost_line, namesake, other_part, same_line, same_named};
+ghost use Rattle.many_requests.specs.Documents.{is_namesake, is_quiet, is_taken, is_told};
+ghost use Rattle.many_requests.specs.Documents.{is_written, lost_line, namesake, other_part};
+ghost use Rattle.many_requests.specs.Documents.{same_line, same_named};
 ghost use Rattle.requests.specs.Status.{error_words};
 
 use crate::drawn_jobs::is_same_file;

@@ -101,11 +101,12 @@ module _ (printer : Printer) (panel : Panel) (plan : Plan) (a : Around) where
 
 -- ---- the command
 
-module _ (IsPrinter : Printer → List ℕ → Type 0) (most : Option ℕ) (choices : List Choice) (selection : Selection) (is_proof : Bool)
-    (name : List ℕ) (a : Around) where
+module _ (IsPrinter : Printer → List ℕ → Type 0) (most : Option ℕ) (choices : List Choice) (selection : Selection)
+    (is_proof : Bool) (name : List ℕ) (a : Around) where
   -- where nothing is refused
   pub left_by : (status : Status) (end : PdfEnd) → IsFalse (is_refusal status) →
-      LeavesPdfOf end IsPrinter most choices selection is_proof name a → LeavesPdfBy status end IsPrinter most choices selection is_proof name a
+      LeavesPdfOf end IsPrinter most choices selection is_proof name a →
+      LeavesPdfBy status end IsPrinter most choices selection is_proof name a
   left_by Pass end answer left = left
   left_by Fail end answer left = left
   left_by Help end answer left = left

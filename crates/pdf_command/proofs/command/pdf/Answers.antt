@@ -294,7 +294,8 @@ returns-clause-kept g c = λ is. c.write_pages-written.ensures.kept (sym (or-fal
 
 pub returns-clause-choice : goal.returns-clause-choice
 returns-clause-choice g c =
-    no_choice c.write_pages-written.result.status _ _ _ _ (pages_refuse c.write_pages-written.result.status c.write_pages-written.ensures.end)
+    no_choice c.write_pages-written.result.status _ _ _ _
+    (pages_refuse c.write_pages-written.result.status c.write_pages-written.ensures.end)
 
 pub returns-clause-quiet : goal.returns-clause-quiet
 returns-clause-quiet g c = λ choice there. c.in_default.ensures.quiet refl

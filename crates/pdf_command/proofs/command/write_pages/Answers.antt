@@ -65,15 +65,16 @@ returns-clause-ends g c =
           rendered c.end_by-status.ensures.ok c.end_by-status.ensures.err);
       read = rendered.read ∙ sym c.end_by-status.ensures.read;
       write =
-          ended_write_beside g.O.Outlet.state c.args.stdout.now c.end_by-status.new.stdout work c.end_by-status.result _ rendered.write c.requires.stdout
-          c.end_by-status.ensures.err c.end_by-status.ensures.write;
+          ended_write_beside g.O.Outlet.state c.args.stdout.now c.end_by-status.new.stdout work c.end_by-status.result _ rendered.write
+          c.requires.stdout c.end_by-status.ensures.err c.end_by-status.ensures.write;
       turns = λ is. rendered.turns (c.end_by-status.ensures.turns is);
     }
 
 pub returns-clause-kept : goal.returns-clause-kept
 returns-clause-kept g c = λ is.
     absurd
-    (true≢false (sym is ∙ ends_by (λ status. is_overwriting status ≡ false) refl refl (λ error. refl) c.end_by-status.result c.end_by-status.ensures.end))
+    (true≢false (sym is ∙ ends_by (λ status. is_overwriting status ≡ false) refl refl (λ error. refl) c.end_by-status.result
+    c.end_by-status.ensures.end))
 
 pub returns-clause-end : goal.returns-clause-end
 returns-clause-end g c = ends_by IsEndOfPages tt tt (λ error. tt) c.end_by-status.result c.end_by-status.ensures.end
