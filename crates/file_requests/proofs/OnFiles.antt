@@ -414,8 +414,8 @@ pub pdf_left : (path into at again to word : List ℕ) (most : Option ℕ) (choi
     → used' ≡ between ++ written_at to over.outlet over.is_put ∷ []
     → LeavesPdfOfFile path into word most choices selection is_proof status used used' out out' err err'
 pdf_left path into at again to word most choices selection is_proof given texts failed first first' job job' end status out out' file
-    file' err err' over before named used early middle between used' none new new' unwritten ends choice limit closed unnamed are told is is'
-    is_out reads reads' written =
+    file' err err' over before named used early middle between used' none new new' unwritten ends choice limit closed unnamed are told is
+    is' is_out reads reads' written =
     let asked = TextsAt (word ∷ []) texts failed in
     let one = written_at into over.outlet over.is_put in
     let read_failed = first'.failed || job'.failed || failed in

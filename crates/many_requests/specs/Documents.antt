@@ -155,14 +155,19 @@ IsCauseOfLoss Turns d job path = ⊥
 IsCauseOfLoss NoProfile d job path = ⊥
 IsCauseOfLoss Items d job path = ⊥
 
--- for such a cause, which is told
+-- and what is told of it: of a name that is no text the check told that the job cannot be read
+abbrev pub TellsLoss : Error → (job : List ℕ) → OutletState → OutletState → Type 0
+TellsLoss Read job err err' = err' ≡ err
+TellsLoss error job err err' = WritesIfSound (lost_line job (error_words error)) err err'
+
+-- for such a cause
 pub record LosesDocument (d : DocumentsAsked) (job path : List ℕ) (well : Bool) (used used' : List FileUse)
     (err err' : OutletState) : Type 0 where
   pub error : Error
   pub cause : IsCauseOfLoss error d job path
   pub well_is : well ≡ false
   pub unused : used' ≡ used
-  pub told : WritesIfSound (lost_line job (error_words error)) err err'
+  pub told : TellsLoss error job err err'
 
 -- the first of the printers that are asked for
 abbrev pub first_word : Asked → List ℕ

@@ -297,7 +297,8 @@ fn write_document<R: Files + Print + AllocGlobal, E: Outlet>(
     }
 }
 
-/// Writes the document of the job of this name to the file at a path.
+/// Writes the document of the job of this name to the file at a path. Of a name that is no text the
+/// check told that the job cannot be read.
 fn write_at<R: Files + Print + AllocGlobal, E: Outlet>(
     rt: &R,
     documents: &Documents<'_, '_, '_>,
@@ -314,10 +315,7 @@ fn write_at<R: Files + Print + AllocGlobal, E: Outlet>(
 {
     match as_texts(job, path) {
         Some((name, path)) => write_apart(rt, documents, word, name, path, used, stderr),
-        None => {
-            tell_lost(rt.alloc(), job, Error::Read, stderr);
-            false
-        }
+        None => false,
     }
 }
 

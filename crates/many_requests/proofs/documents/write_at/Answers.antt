@@ -24,4 +24,4 @@ returns-in-Some g c =
 
 pub returns-in-None : goal.returns-in-None
 returns-in-None g c =
-    inr (record { error = Read; cause = c.in-None.ensures; well_is = refl; unused = refl; told = c.tell_lost.ensures })
+    inr (record { error = Read; cause = c.in-None.ensures; well_is = refl; unused = refl; told = refl })
