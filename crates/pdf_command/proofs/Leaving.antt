@@ -2,13 +2,13 @@
 use Rattle.std.proofs.Common.{◌≡◌, inl, inr, ℕ, Bool, true, false, true≢false, List, Option, Ok, Err, Result, refl, ap, sym, IsFalse}
 use Rattle.std.specs.Prelude.{◌&&◌, IfErr, IfOk, not}
 use Rattle.device_profile.specs.declared.panel.Panel.{Panel}
-use Rattle.device_profile.specs.Printer.{Printer}
+use Rattle.device_profile.specs.Printer.{IsAllowed, Printer}
 use Rattle.job_pdf.specs.Plan.{Plan}
 use Rattle.named_inputs.specs.Choices.{TellsOfChoice}
 use Rattle.named_inputs.specs.Fleet.{IsEndOfProfile}
 use Rattle.pdf_command.specs.declared.command.PdfEnd.{PdfEnd}
 use Rattle.pdf_command.specs.Pdf.{Around, DrawsBy, DrawsOrStops, DrawsPages, EndsBefore, IsEndOfPages, IsUndrawn, IsUnsearched, IsUntouched}
-use Rattle.pdf_command.specs.Pdf.{GivesUpBy, LeavesPdfBy, LeavesPdfOf, first_wanted, passes_limit, search_of}
+use Rattle.pdf_command.specs.Pdf.{GivesUpBy, LeavesPdfBy, LeavesPdfOf, first_wanted, limited, passes_limit, search_of}
 use Rattle.picture_command.proofs.Commands.{search_writes}
 use Rattle.renderings.specs.declared.outcome.Outcome.{Outcome}
 use Rattle.renderings.specs.declared.outcome.Outcome.TheVariants.{Done as AllDone, Fail as FailsOf}
@@ -181,6 +181,20 @@ opening_ends (Stopped NoProfile) end = absurd end
 opening_ends (Stopped Items) end = absurd end
 
 -- ---- the limit of items
+
+-- a panel that the printer may have without it
+pub limited_allowed : (most : Option ℕ) (printer : Printer) (panel : Panel) → IsAllowed printer panel →
+    IsAllowed (limited most printer) panel
+limited_allowed most printer panel allowed = record {
+  size = allowed.size;
+  orientation = allowed.orientation;
+  vmi = allowed.vmi;
+  font = allowed.font;
+  copies = allowed.copies;
+  sides = allowed.sides;
+  tray = allowed.tray;
+  line_termination = allowed.line_termination;
+}
 
 -- the line of the failure tells it, where the work ended by one
 pub limit_told : {O : Type 0} (old new : O) (work : Result Outcome Error) (status : Status) (gives_up : Bool)

@@ -1,6 +1,6 @@
 use Rattle.std.proofs.Common.{◌≡◌, ◌||◌, ◌∙◌, ℕ, List, false, inl, inr, refl, ap, sym, subst, true≢false}
 use Rattle.std.proofs.Math.Bool.{or-false}
-use Rattle.device_profile.specs.Printer.{Printer}
+use Rattle.device_profile.specs.Printer.{IsAllowed, Printer}
 use Rattle.job_pdf.specs.JobPdf.{pdf_rendering}
 use Rattle.job_reports.specs.Groups.{Groups}
 use Rattle.named_inputs.proofs.FleetFacts.{no_write_before}
@@ -14,7 +14,7 @@ use Rattle.subcommands.proofs.JudgedFirst.{judged_first}
 use Rattle.subcommands.proofs.Leaves.{Stays-none}
 use Rattle.subcommands.specs.JobTexts.{LeavesOut}
 use Rattle.pdf_command.proofs.Leaving.{before_answers, before_left, before_refuses, before_writes, left_by, no_panel, no_printer}
-use Rattle.pdf_command.proofs.Leaving.{before_gives_up, pages_left, pages_refuse, panel_gives_up, profile_gives_up}
+use Rattle.pdf_command.proofs.Leaving.{before_gives_up, limited_allowed, pages_left, pages_refuse, panel_gives_up, profile_gives_up}
 use Rattle.pdf_command.specs.declared.command.PdfEnd.{PdfEnd}
 use Rattle.pdf_command.specs.Pdf.{Around, EndsBefore, HasPage, first_wanted, limited, plan_of, search_of}
 use Rattle.pdf_command.proofs.command.pdf.Goals as goal
@@ -83,6 +83,20 @@ returns-in-Err-chosen_panel-clause-quiet g c = λ choice there. c.refuse_choice-
 pub returns-in-Err-chosen_panel-clause-limit : goal.returns-in-Err-chosen_panel-clause-limit
 returns-in-Err-chosen_panel-clause-limit g c = λ there.
     panel_gives_up c.refuse_choice-status.result _ _ _ _ _ _ c.refuse_choice-status.ensures.choice
+
+-- ---- the printer with its limit
+
+pub end_without_page-requires-clause-allowed : goal.end_without_page-requires-clause-allowed
+end_without_page-requires-clause-allowed g c =
+    let panel = c.in-Ok-chosen_panel.panel in
+    subst (λ (printer : Printer). IsAllowed printer panel) (sym c.limited_printer-limited.ensures.profile)
+    (limited_allowed c.args.asked.now.most_items c.in-Ok.printer.profile panel c.in-Ok-chosen_panel.ensures.allowed)
+
+pub write_pages-written-requires-clause-allowed : goal.write_pages-written-requires-clause-allowed
+write_pages-written-requires-clause-allowed g c =
+    let panel = c.in-Ok-chosen_panel.panel in
+    subst (λ (printer : Printer). IsAllowed printer panel) (sym c.limited_printer-limited.ensures.profile)
+    (limited_allowed c.args.asked.now.most_items c.in-Ok.printer.profile panel c.in-Ok-chosen_panel.ensures.allowed)
 
 -- ---- it ends before the document
 
