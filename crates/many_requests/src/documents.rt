@@ -408,13 +408,17 @@ fn same_list<'l, R: Files>(rt: &R, names_from: Option<&'l str>, path: &str) -> O
 {
     match names_from {
         None => None,
-        Some(list) => {
-            if is_same_file(rt, path, list) {
-                return Some(list);
-            }
-            None
-        }
+        Some(list) => list_there(rt, list, path),
     }
+}
+
+fn list_there<'l, R: Files>(rt: &R, list: &'l str, path: &str) -> Option<&'l str>
+    ensures { IfSome result (λ found. found.now ≡ list.now) }
+{
+    if is_same_file(rt, path, list) {
+        return Some(list);
+    }
+    None
 }
 
 /// The job to which a path is a link. A job of the path's own name ends in `.pdf`, and was refused.

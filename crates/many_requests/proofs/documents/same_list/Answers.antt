@@ -1,5 +1,8 @@
-use Rattle.std.proofs.Common.{ap, option_map}
+use Rattle.std.proofs.Common.{◌∙◌, List, Some, ℕ, ap, option_map, sym}
+use Rattle.many_requests.proofs.Found.{some_weaker}
 use Rattle.many_requests.proofs.documents.same_list.Goals as goal
 
-pub returns-in-Some-then-is_same_file : goal.returns-in-Some-then-is_same_file
-returns-in-Some-then-is_same_file g c = ap (option_map (λ path. path.now)) c.in-Some.is
+pub returns-in-Some : goal.returns-in-Some
+returns-in-Some g c =
+    some_weaker c.list_there.result
+    (λ found is. ap (option_map (λ path. path.now)) c.in-Some.is ∙ ap (λ (path : List ℕ). Some path) (sym is)) c.list_there.ensures
