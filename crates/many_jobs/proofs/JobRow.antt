@@ -100,8 +100,7 @@ module _ (group : Groups) (telling : HowTold) (start : SourceState) (job : List 
   HasRead notes near page ended ended' =
       (row : RowRead) × IsRightlyNoted write_note start (note_printer (verdict_told answer) group.note_printers) row.noted
       × IsReread (near_of_job telling job answer) start row.near × IsReread (page_of_job telling group job answer) start row.page
-      × (parts_with telling job (verdict_told answer) notes near page
-      ≡ parts_of telling job (verdict_told answer) row.noted row.near row.page)
+      × (parts_with telling job notes near page ≡ parts_of telling job row.noted row.near row.page)
       × (ended' ≡ ended ++ row_afters job row.noted row.near row.page) × (ending_of_kept notes ≡ ending_of_noted row.noted)
 
   pub has_read : (notes near page : Option (Result (List ℕ) Error)) (ended first second third : List JobRead) →
@@ -120,9 +119,9 @@ module _ (group : Groups) (telling : HowTold) (start : SourceState) (job : List 
         n.1,
         r.1,
         p.1,
-        ap (λ (t : Option (Result (List ℕ) Error)). parts_with telling job (verdict_told answer) t near page) n.2
-            ∙ ap (λ (t : Option (Result (List ℕ) Error)). parts_with telling job (verdict_told answer) notes_of t page) r.2
-            ∙ ap (λ (t : Option (Result (List ℕ) Error)). parts_with telling job (verdict_told answer) notes_of near_text t) p.2,
+        ap (λ (t : Option (Result (List ℕ) Error)). parts_with telling job t near page) n.2
+            ∙ ap (λ (t : Option (Result (List ℕ) Error)). parts_with telling job notes_of t page) r.2
+            ∙ ap (λ (t : Option (Result (List ℕ) Error)). parts_with telling job notes_of near_text t) p.2,
         p.3 ∙ ap (λ es. es ++ reread_after job p.0) (r.3 ∙ ap (λ es. es ++ reread_after job r.0) n.3)
             ∙ ap (λ es. es ++ reread_after job p.0) (append_assoc ended (noted_after job n.0) (reread_after job r.0))
             ∙ append_assoc ended (noted_after job n.0 ++ reread_after job r.0) (reread_after job p.0),
@@ -136,7 +135,7 @@ module _ (group : Groups) (telling : HowTold) (start : SourceState) (job : List 
 
     -- it was written
     pub row_adds : (ending : Ending) → ending ≡ worse (ending_of telling answer) (ending_of_kept notes) →
-        AddsTold (text_with (parts_with telling job (verdict_told answer) notes near page)) out out' →
+        AddsTold (text_with (parts_with telling job notes near page)) out out' →
         AddsRow group telling start job answer (work out ended) (work out' ended') ending
     row_adds ending is adds = (
       read.0,
@@ -152,7 +151,7 @@ module _ (group : Groups) (telling : HowTold) (start : SourceState) (job : List 
     )
 
     -- it is not there whole
-    pub row_cuts : (error : Error) → CutsTold error (text_with (parts_with telling job (verdict_told answer) notes near page)) out out' →
+    pub row_cuts : (error : Error) → CutsTold error (text_with (parts_with telling job notes near page)) out out' →
         CutsRow error group telling start job answer (work out ended) (work out' ended')
     row_cuts Memory same = (read.0, same, read.5)
     row_cuts Write cut = (

@@ -1,6 +1,6 @@
 -- What further readings of a job tell in its row, in a document of many jobs.
-use Rattle.std.specs.Prelude.{◌≡◌, ◌-◌, ◌&&◌, ◌||◌, nat_le, nat_lt, ℕ, Bool, true, false, List, [], ◌∷◌, ◌++◌}
-use Rattle.std.specs.Prelude.{slice_get, option_map, Option, None, Some, Result, Ok, Err, IfOk, IfErr, ⊤, if◌then◌else◌}
+use Rattle.std.specs.Prelude.{◌≡◌, ◌-◌, ◌&&◌, ◌||◌, nat_le, ℕ, Bool, false, List, [], ◌∷◌, ◌++◌, slice_get}
+use Rattle.std.specs.Prelude.{option_map, Option, None, Some, Result, Ok, Err, IfOk, IfErr, ⊤, if◌then◌else◌}
 use Rattle.std.specs.List.{list_any}
 use Rattle.std.specs.Str.{bytes_eq}
 use Rattle.pcl_items.specs.Items.{Placed}
@@ -102,24 +102,13 @@ is_among names job = list_any (has_name job) names
 abbrev pub is_read_once : HowTold → (job : List ℕ) → Bool
 is_read_once telling job = is_input job || is_among telling.read_once job
 
--- it has a verdict, and where it passes a page
-abbrev pub has_pages : Result Verdict Error → Bool
-has_pages (Ok (Pass pages marks)) = nat_lt 0 pages
-has_pages (Ok (Fail place profile reason)) = true
-has_pages (Err error) = false
-
 -- where the document of a job is: in the folder that has those of jobs that can be read again
 abbrev pub document_in : (folder job : List ℕ) → DocumentTold
 document_in folder job = record { folder = folder; job = job }
 
-abbrev pub document_in_some : Option (List ℕ) → (job : List ℕ) → Option DocumentTold
-document_in_some folder job = option_map (λ path. document_in path job) folder
-
--- of a job of which this came
-abbrev pub document_of : HowTold → (job : List ℕ) → Result Verdict Error → Option DocumentTold
-document_of telling job answer =
-    if is_read_once telling job then None
-    else (if has_pages answer then document_in_some telling.documents job else None)
+abbrev pub document_of : HowTold → (job : List ℕ) → Option DocumentTold
+document_of telling job =
+    if is_read_once telling job then None else option_map (λ folder. document_in folder job) telling.documents
 
 -- ---- the picture of a page
 
@@ -185,23 +174,20 @@ pub record RowRead : Type 0 where
 abbrev pub row_afters : List ℕ → Option Noted → Option Reread → Option Reread → List JobRead
 row_afters job noted near page = noted_after job noted ++ reread_after job near ++ reread_after job page
 
--- these parts, of a job that can be read only once just where it is one of those, and else with its document, if it
--- has one
-abbrev pub parts_with : HowTold → (job : List ℕ) → Result Verdict Error →
-    (notes near page : Option (Result (List ℕ) Error)) → PartsTold
-parts_with telling job answer notes near page =
+-- these parts, of a job that can be read only once just where it is one of those, and else with its document
+abbrev pub parts_with : HowTold → (job : List ℕ) → (notes near page : Option (Result (List ℕ) Error)) → PartsTold
+parts_with telling job notes near page =
     record {
       notes = notes;
       near = near;
       page = page;
       is_once = is_read_once telling job;
-      document = document_of telling job answer;
+      document = document_of telling job;
     }
 
-abbrev pub parts_of : HowTold → (job : List ℕ) → Result Verdict Error → Option Noted → Option Reread → Option Reread →
-    PartsTold
-parts_of telling job answer noted near page =
-    parts_with telling job answer (option_map (λ (n : Noted). n.notes) noted) (option_map (λ (r : Reread). r.text) near)
+abbrev pub parts_of : HowTold → (job : List ℕ) → Option Noted → Option Reread → Option Reread → PartsTold
+parts_of telling job noted near page =
+    parts_with telling job (option_map (λ (n : Noted). n.notes) noted) (option_map (λ (r : Reread). r.text) near)
     (option_map (λ (r : Reread). r.text) page)
 
 abbrev pub row_with : HowTold → Groups → (job : List ℕ) → Result Judgement Error → Option (List ℕ) → PartsTold → List ℕ
@@ -212,4 +198,4 @@ row_with telling group job answer cause parts =
 abbrev pub row_told : HowTold → Groups → (job : List ℕ) → Result Judgement Error → Option (List ℕ) → Option Noted →
     Option Reread → Option Reread → List ℕ
 row_told telling group job answer cause noted near page =
-    row_with telling group job answer cause (parts_of telling job (verdict_told answer) noted near page)
+    row_with telling group job answer cause (parts_of telling job noted near page)

@@ -10,7 +10,6 @@ ghost use Rattle.many_jobs.specs.Asked.{told_by};
 ghost use Rattle.many_jobs.specs.JobChecks.{AddsRow, AddsTold, CutsRow, CutsTold, work};
 ghost use Rattle.many_jobs.specs.JobNoting.{AreRightNotes, note_printer};
 ghost use Rattle.many_jobs.specs.JobRow.{Rereads, RereadsNotes, document_of, drawn_by, has_name};
-ghost use Rattle.many_jobs.specs.JobRow.{has_pages};
 ghost use Rattle.many_jobs.specs.JobRow.{is_among, is_read_once, near_of_job, page_of_job};
 ghost use Rattle.many_jobs.specs.JobRow.{page_shown};
 ghost use Rattle.many_jobs.specs.JobRow.{place_shown, printer_shown, row_with};
@@ -61,7 +60,7 @@ pub(crate) fn tell_row<'n, J: Jobs<'n>, O: Outlet, A: Allocator + Copy>(
     let near = reread_near(alloc, jobs, name, answer, telling);
     let page = reread_page(alloc, jobs, name, group, answer, telling);
     let once = is_read_once(telling, name);
-    let document = document_of(telling, name, answer);
+    let document = document_of(telling, name);
     let judged = Ending::of(telling, answer);
     let noted = Ending::of_notes(&notes);
     let parts = RowParts {
@@ -290,37 +289,16 @@ pub fn is_read_once(telling: &Telling<'_>, job: &[u8]) -> bool
     is_input(job) || is_among(telling.read_once, job)
 }
 
-/// Where the document of a job is of which this came, if it has one.
-fn document_of<'d>(
-    telling: &Telling<'d>,
-    job: &'d [u8],
-    answer: Result<Judgement, Error>,
-) -> Option<JobDocument<'d>>
-    ensures { option_map told_of result
-        ≡ document_of (told_by telling.now) job.now (verdict_told answer) }
+/// Where the document of a job is, if it has one.
+fn document_of<'d>(telling: &Telling<'d>, job: &'d [u8]) -> Option<JobDocument<'d>>
+    ensures { option_map told_of result ≡ document_of (told_by telling.now) job.now }
 {
     if is_read_once(telling, job) {
-        return None;
-    }
-    if !has_pages(answer) {
         return None;
     }
     match telling.documents {
         None => None,
         Some(folder) => Some(JobDocument { folder, job }),
-    }
-}
-
-/// Whether a job has a verdict, and where it passes a page.
-fn has_pages(answer: Result<Judgement, Error>) -> bool
-    ensures { result ≡ has_pages (verdict_told answer) }
-{
-    match answer {
-        Ok(judgement) => match judgement.verdict {
-            Verdict::Pass { pages, .. } => pages > 0,
-            Verdict::Fail { .. } => true,
-        },
-        Err(_) => false,
     }
 }
 

@@ -2,7 +2,6 @@ use Rattle.std.proofs.Common.{◌≡◌, ◌∙◌, Bool, ℕ, List, Option, Res
 use Rattle.std.proofs.lemmas.Result.{err_from_is_err_and}
 use Rattle.job_rows.specs.Kept.{kept_part}
 use Rattle.job_rows.specs.Links.{DocumentTold}
-use Rattle.job_reports.specs.Reports.{verdict_told}
 use Rattle.job_rows.specs.Rows.{PartsTold}
 use Rattle.streams.specs.declared.error.Error.{Error}
 use Rattle.many_jobs.specs.Asked.{told_by}
@@ -46,7 +45,7 @@ returns-clause-told g c =
     let told =
     subst
     (λ (is_once : Bool).
-    AddsTold (λ cause. row_with telling group name answer cause (parts is_once (document_of telling name (verdict_told answer))))
+    AddsTold (λ cause. row_with telling group name answer cause (parts is_once (document_of telling name)))
     (g.O.Outlet.state c.args.stdout.now) (g.O.Outlet.state c.write_row.new.stdout))
     c.is_read_once-once.ensures
     (subst
@@ -85,7 +84,7 @@ returns-in_err-write_row-clause-cut g c =
     let cut =
     subst
     (λ (is_once : Bool).
-    CutsTold error (λ cause. row_with telling group name answer cause (parts is_once (document_of telling name (verdict_told answer))))
+    CutsTold error (λ cause. row_with telling group name answer cause (parts is_once (document_of telling name)))
     (g.O.Outlet.state c.args.stdout.now) (g.O.Outlet.state c.write_row.new.stdout))
     c.is_read_once-once.ensures
     (subst
