@@ -112,7 +112,7 @@ pub(crate) const MANY_OPTIONS: &[OptionRow] = &[
         id: "PDF",
         short: None,
         long: "pdf",
-        value: Value::Text("DIR"),
+        value: Value::Folder("DIR"),
         excludes: None,
         help: "Writes the pages of each job as a PDF document into a folder that is there",
     },
@@ -176,16 +176,8 @@ pub(crate) fn read_many<'a>(
         passes_unchecked: counts_as_pass(found.get_str("COUNT")),
         form: form_asked(found).unwrap_or(usual),
         explains: found.get_flag("EXPLAIN"),
-        documents: folder_of(found.get_str("PDF")),
+        documents: found.get_str("PDF"),
     }))
-}
-
-/// The path of a folder; that of no letter is the one where the program runs.
-fn folder_of(word: Option<&str>) -> Option<&str> {
-    match word {
-        Some("") => Some("."),
-        word => word,
-    }
 }
 
 /// Whether a job that pclcheck cannot judge counts as one that passes.

@@ -58,6 +58,8 @@ pub(crate) enum Value {
     Nothing,
     /// A text, which help calls so.
     Text(&'static str),
+    /// The path of a folder, which help calls so: a text that is not empty.
+    Folder(&'static str),
     /// A text, which help calls so, each time that the option comes.
     EachText(&'static str),
     /// Texts with commas between them, which help calls so.
@@ -161,6 +163,7 @@ fn with_value<'a>(arg: Arg<'a>, value: &Value) -> Arg<'a> {
     match value {
         Value::Nothing => arg.action(ArgAction::SetTrue),
         Value::Text(name) => with_text(arg, name),
+        Value::Folder(name) => with_text(arg, name).value_parser(ValueParser::NonEmptyString),
         Value::EachText(name) => arg.action(ArgAction::Append).value_name(name),
         Value::List(name) => with_text(arg, name).value_delimiter(','),
         Value::ListOf { name, words } => list_of(arg, name, words),

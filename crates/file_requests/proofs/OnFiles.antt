@@ -1,13 +1,13 @@
 -- What commands leave on files that are new.
-use Rattle.std.proofs.Common.{◌≡◌, ◌∙◌, ◌⊎◌, ◌||◌, ◌++◌, ◌∷◌, ℕ, Bool, IsTrue, List, [], None, Option, Some, ap, append-nil, false, inl}
-use Rattle.std.proofs.Common.{inr, map, refl, subst, sym, true}
+use Rattle.std.proofs.Common.{◌≡◌, ◌∙◌, ◌⊎◌, ◌||◌, ◌++◌, ◌∷◌, ℕ, Bool, IsFalse, IsTrue, List, [], None, Option, Some, ap, append-nil, false}
+use Rattle.std.proofs.Common.{inl, inr, map, refl, subst, sym, true}
 use Rattle.std.specs.Prelude.{option_to_list}
 use Rattle.profile_commands.specs.ProfileFromPjl.{AsksBaseIfAny, LeavesAnswered}
 use Rattle.profile_commands.specs.ProfileLint.{LeavesLint}
 use Rattle.profile_commands.specs.ProfileSheet.{LeavesSheet}
 use Rattle.profile_commands.specs.ProfileShow.{LeavesShown}
 use Rattle.pdf_command.specs.declared.command.PdfEnd.{PdfEnd}
-use Rattle.pdf_command.specs.Pdf.{Around, EndsPdf, LeavesPdf}
+use Rattle.pdf_command.specs.Pdf.{Around, EndsPdf, GivesUpBy, LeavesPdf}
 use Rattle.picture_command.specs.Picture.{BeforeAndAfter, HasNoEnd, IsNamedBy, LeavesPicture}
 use Rattle.renderings.specs.Expected.{Rendering, plain_rendering}
 use Rattle.streams.specs.declared.error.Error.TheVariants.{Turns}
@@ -381,10 +381,10 @@ around_pdf first first' job job' file file' out out' err err' = record {
 }
 
 -- how the document of a job ends, for the printer of this word by these texts
-abbrev document_ends : PdfEnd → (word : List ℕ) → List Choice → Selection → Bool → (path : List ℕ) → (given texts : List (List ℕ)) →
-    Around → (read_failed write_failed : Bool) → Type 0
-document_ends end word choices selection is_proof path given texts a read_failed write_failed =
-    EndsPdf end (LeavesPdf end (IsNamedBy given texts (IsNamed (text_named word) given texts)) choices selection is_proof path) a
+abbrev document_ends : PdfEnd → (word : List ℕ) → (most : Option ℕ) → List Choice → Selection → Bool → (path : List ℕ) →
+    (given texts : List (List ℕ)) → Around → (read_failed write_failed : Bool) → Type 0
+document_ends end word most choices selection is_proof path given texts a read_failed write_failed =
+    EndsPdf end (LeavesPdf end (IsNamedBy given texts (IsNamed (text_named word) given texts)) most choices selection is_proof path) a
     read_failed write_failed
 
 -- the work stopped at a read just where one failed, whichever it was
@@ -397,24 +397,25 @@ document_reads end Left a read_failed write_failed ends = record {
   turns = ends.turns;
 }
 
-pub pdf_left : (path into at again to word : List ℕ) (choices : List Choice) (selection : Selection) (is_proof : Bool)
+pub pdf_left : (path into at again to word : List ℕ) (most : Option ℕ) (choices : List Choice) (selection : Selection) (is_proof : Bool)
     (given texts : List (List ℕ)) (failed : Bool) (first first' job job' : SourceState) (end : PdfEnd) (status : Status)
     (out out' file file' err err' : OutletState) (over : FileOutletState) (before named : List (List ℕ))
     (used early middle between used' : List FileUse)
     → given ≡ [] → first ≡ no_source → job ≡ no_source → file ≡ no_outlet
-    → document_ends end word choices selection is_proof path given texts
+    → document_ends end word most choices selection is_proof path given texts
     (around_pdf first first' job job' file file' out out' err err')
     (first'.failed || job'.failed || failed) (file'.failed || out'.failed)
     → TellsOfPin end.status (IsNamed (text_named word) given texts) choices err err'
+    → (IsFalse end.lacks_page → GivesUpBy end.status end.gives_up out out')
     → EndsDocument end status file' over
     → before ≡ [] → named ≡ before ++ word ∷ [] → early ≡ used ++ TextsAt named texts failed ∷ []
     → at ≡ path → again ≡ path → to ≡ into
     → middle ≡ early ++ read_at at first' ∷ [] → between ≡ middle ++ read_at again job' ∷ []
     → used' ≡ between ++ written_at to over.outlet over.is_put ∷ []
-    → LeavesPdfOfFile path into word choices selection is_proof status used used' out out' err err'
-pdf_left path into at again to word choices selection is_proof given texts failed first first' job job' end status out out' file file' err
-    err' over before named used early middle between used' none new new' unwritten ends choice closed unnamed are told is is' is_out reads
-    reads' written =
+    → LeavesPdfOfFile path into word most choices selection is_proof status used used' out out' err err'
+pdf_left path into at again to word most choices selection is_proof given texts failed first first' job job' end status out out' file
+    file' err err' over before named used early middle between used' none new new' unwritten ends choice limit closed unnamed are told is
+    is' is_out reads reads' written =
     let asked = TextsAt (word ∷ []) texts failed in
     let one = written_at into over.outlet over.is_put in
     let read_failed = first'.failed || job'.failed || failed in
@@ -437,26 +438,27 @@ pdf_left path into at again to word choices selection is_proof given texts faile
           (one_written between used' into to over.outlet over.is_put is_out written);
       ends =
           document_reads end
-          (LeavesPdf end (IsNamedBy [] texts (IsNamed (text_named word) [] texts)) choices selection is_proof path)
+          (LeavesPdf end (IsNamedBy [] texts (IsNamed (text_named word) [] texts)) most choices selection is_proof path)
           (around_pdf no_source first' no_source job' no_outlet file' out out' err err') read_failed write_failed
           (subst
-          (λ f. document_ends end word choices selection is_proof path [] texts
+          (λ f. document_ends end word most choices selection is_proof path [] texts
           (around_pdf no_source first' no_source job' f file' out out' err err') read_failed write_failed)
           unwritten
           (subst
-          (λ g. document_ends end word choices selection is_proof path g texts
+          (λ g. document_ends end word most choices selection is_proof path g texts
           (around_pdf no_source first' no_source job' file file' out out' err err') read_failed write_failed)
           none
           (subst
-          (λ s. document_ends end word choices selection is_proof path given texts
+          (λ s. document_ends end word most choices selection is_proof path given texts
           (around_pdf no_source first' s job' file file' out out' err err') read_failed write_failed)
           new'
           (subst
-          (λ s. document_ends end word choices selection is_proof path given texts
+          (λ s. document_ends end word most choices selection is_proof path given texts
           (around_pdf s first' job job' file file' out out' err err') read_failed write_failed)
           new ends))));
       read = reads_stop first'.failed job'.failed failed (is_stop_of_read end.status) ends.read;
       choice = subst (λ g. TellsOfPin end.status (IsNamed (text_named word) g texts) choices err err') none choice;
+      limit = limit;
       put = puts_document into end status file' over closed;
     }
 

@@ -1,7 +1,7 @@
 -- What the commands on one job come to. Nothing is known of files beforehand, so this is said for what the history of
 -- files tells: which were read and which were written, at which path, and what that came to.
 -- It has those of a job, of OUT and of the texts of profiles.
-use Rattle.std.specs.Prelude.{◌≡◌, ◌⊎◌, ◌||◌, [], ◌∷◌, ◌++◌, ℕ, Bool, List, Option, IsTrue, codes, map}
+use Rattle.std.specs.Prelude.{◌≡◌, ◌⊎◌, ◌||◌, [], ◌∷◌, ◌++◌, ℕ, Bool, List, Option, IsFalse, IsTrue, codes, map}
 use Rattle.streams.specs.declared.error.Error.TheVariants.{Turns}
 use Rattle.renderings.specs.Expected.{Rendering, plain_rendering}
 use Rattle.streams.specs.Ended.{JobRead}
@@ -18,7 +18,7 @@ use Rattle.survey.specs.Command.{LeavesSurvey}
 use Rattle.subcommands.specs.JobTexts.{EndsBy, LeavesOut, LeavesPages, LeavesPinned, LeavesText}
 use Rattle.named_inputs.specs.Choices.{TellsOfPin}
 use Rattle.pdf_command.specs.declared.command.PdfEnd.{PdfEnd}
-use Rattle.pdf_command.specs.Pdf.{EndsPdf, LeavesPdf}
+use Rattle.pdf_command.specs.Pdf.{EndsPdf, GivesUpBy, LeavesPdf}
 use Rattle.picture_command.specs.Picture.{HasNoEnd, IsNamedBy, LeavesPicture}
 use Rattle.file_requests.specs.Outs.{PutsDocument, PutsOut}
 use Rattle.requests.specs.Status.{is_stop_of_read, is_stop_of_write}
@@ -152,8 +152,8 @@ read_to_write = codes "a document is written at a second reading\n"
 -- Pages of the job at a path as a document, from the panel that is chosen of the printer that this word names, put in
 -- the place of the file at another. The job is read twice; the work stops where one of these reads fails, and for its
 -- turns after 2^40 reads.
-pub record LeavesPdfOfFile (path into word : List ℕ) (choices : List Choice) (selection : Selection) (is_proof : Bool)
-    (status : Status) (used used' : List FileUse) (out out' err err' : OutletState) : Type 0 where
+pub record LeavesPdfOfFile (path into word : List ℕ) (most : Option ℕ) (choices : List Choice) (selection : Selection)
+    (is_proof : Bool) (status : Status) (used used' : List FileUse) (out out' err err' : OutletState) : Type 0 where
   pub first : SourceState
   pub job : SourceState
   pub texts : List (List ℕ)
@@ -163,7 +163,7 @@ pub record LeavesPdfOfFile (path into word : List ℕ) (choices : List Choice) (
   pub one : FileUse
   pub used_are : used' ≡ used ++ TextsAt (word ∷ []) texts failed ∷ read_at path first ∷ read_at path job ∷ one ∷ []
   pub ends : EndsPdf end
-      (LeavesPdf end (IsNamedBy [] texts (IsNamed (text_named word) [] texts)) choices selection is_proof path)
+      (LeavesPdf end (IsNamedBy [] texts (IsNamed (text_named word) [] texts)) most choices selection is_proof path)
       (record {
         first = no_source;
         first' = first;
@@ -179,11 +179,12 @@ pub record LeavesPdfOfFile (path into word : List ℕ) (choices : List Choice) (
       (is_stop_of_read end.status) (file.failed || out'.failed)
   pub read : IsTrue (first.failed || job.failed) → IsTrue (is_stop_of_read end.status)
   pub choice : TellsOfPin end.status (IsNamed (text_named word) [] texts) choices err err'
+  pub limit : IsFalse end.lacks_page → GivesUpBy end.status end.gives_up out out'
   pub put : PutsDocument into end status file one
 
 -- the same, unless the job is no file and is refused, since it cannot be read twice
-abbrev pub LeavesPdfAt : (path into word : List ℕ) → List Choice → Selection → (is_proof : Bool) → Status →
-    List FileUse → List FileUse → OutletState → OutletState → OutletState → OutletState → Type 0
-LeavesPdfAt path into word choices selection is_proof status used used' out out' err err' =
-    LeavesPdfOfFile path into word choices selection is_proof status used used' out out' err err'
+abbrev pub LeavesPdfAt : (path into word : List ℕ) → (most : Option ℕ) → List Choice → Selection → (is_proof : Bool) →
+    Status → List FileUse → List FileUse → OutletState → OutletState → OutletState → OutletState → Type 0
+LeavesPdfAt path into word most choices selection is_proof status used used' out out' err err' =
+    LeavesPdfOfFile path into word most choices selection is_proof status used used' out out' err err'
     ⊎ (RefusesPipe (path ∷ []) read_to_write status err err' × (out' ≡ out) × (used' ≡ used))

@@ -166,8 +166,8 @@ pub fn pdf<R: Files + Print + AllocGlobal, O: Outlet, E: Outlet>(
     requires stdout { IsFalse (O.state stdout.old).failed }
     requires stderr { IsFalse (E.state stderr.old).failed }
     ensures { LeavesPdfAt asked.now.job.now out.now asked.now.setting.profile.now
-        asked.now.setting.choices.now asked.now.selection asked.now.is_proof result
-        used.old used.new
+        asked.now.most_items asked.now.setting.choices.now asked.now.selection asked.now.is_proof
+        result used.old used.new
         (O.state stdout.old) (O.state stdout.new) (E.state stderr.old) (E.state stderr.new) }
 {
     if is_pipe(rt, asked.job.as_bytes()) {

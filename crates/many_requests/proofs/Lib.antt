@@ -5,5 +5,6 @@ mod Contained
 mod DocumentsLeft
 mod DrawnLeft
 mod Fleets
+mod Found
 mod GoldenLeft
 mod NameFacts

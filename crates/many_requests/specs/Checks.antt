@@ -25,7 +25,8 @@ use Rattle.requests.specs.declared.status.Status.TheVariants.{Stopped}
 use Rattle.requests.specs.Status.{is_stop_of_write}
 use Rattle.many_jobs.specs.declared.telling.Format.{Format}
 use Rattle.many_jobs.specs.declared.telling.Format.TheVariants.{Line, Words, Json, Html}
-use Rattle.many_requests.specs.Documents.{RefusesName, WritesBehind, has_lines, same_named}
+use Rattle.many_requests.specs.Documents.{RefusesName, WritesBehind, has_errors, has_lines, same_named}
+use Rattle.many_requests.specs.Folders.{RefusesFolder}
 use Rattle.many_requests.specs.Inputs.{RefusesInput, reads_input_again}
 use Rattle.many_requests.specs.Lists.{RefusesList, is_refused_list, list_fault, path_of}
 use Rattle.many_requests.specs.Names.{AreNamesAt, names_in}
@@ -129,32 +130,43 @@ LeavesAsked names_from asked status used used' out out' err err' =
     × (out'.failed ≡ is_stop_of_write status))
     ⊎ (RefusesInput names_from asked status err err' × (out' ≡ out) × (used' ≡ used))
 
--- They are checked, and behind that their documents are written; or jobs of one name are refused, whose documents would
--- be one file.
-pub record LeavesDocuments (folder : List ℕ) (names_from : Option (List ℕ)) (asked : Asked) (status : Status)
-    (used used' : List FileUse) (out out' err err' : OutletState) : Type 0 where
+-- jobs of one name are refused, whose documents would be one file, or a folder that cannot have them
+abbrev pub RefusesDocuments : (folder : List ℕ) → (jobs : List (List ℕ)) → Status → OutletState → OutletState → Type 0
+RefusesDocuments folder jobs status err err' = RefusesName jobs status err err' ⊎ RefusesFolder folder status err err'
+
+-- They are checked, and behind that their documents are written; or these are refused.
+pub record LeavesDocuments (folder : List ℕ) (names_from : Option (List ℕ)) (fleets : List (List ℕ)) (asked : Asked)
+    (status : Status) (used used' : List FileUse) (out out' err err' : OutletState) : Type 0 where
   pub apart : same_named asked.jobs ≡ None
   pub answer : Status
   pub between : List FileUse
   pub told : OutletState
   pub checked : LeavesAsked names_from asked answer used between out out' err told
-  pub written : WritesBehind (has_lines answer) folder asked answer status between used' told err'
+  pub written : WritesBehind (has_lines answer)
+      (record {
+        folder = folder;
+        asked = asked;
+        fleets = fleets;
+        names_from = names_from;
+        has_errors = has_errors answer;
+      })
+      answer status between used' told err'
 
-abbrev pub LeavesWith : (documents : Option (List ℕ)) → Option (List ℕ) → Asked → Status → List FileUse →
-    List FileUse → OutletState → OutletState → OutletState → OutletState → Type 0
-LeavesWith None names_from asked status used used' out out' err err' =
+abbrev pub LeavesWith : (documents : Option (List ℕ)) → Option (List ℕ) → (fleets : List (List ℕ)) → Asked → Status →
+    List FileUse → List FileUse → OutletState → OutletState → OutletState → OutletState → Type 0
+LeavesWith None names_from fleets asked status used used' out out' err err' =
     LeavesAsked names_from asked status used used' out out' err err'
-LeavesWith (Some folder) names_from asked status used used' out out' err err' =
-    LeavesDocuments folder names_from asked status used used' out out' err err'
-    ⊎ (RefusesName asked.jobs status err err' × (out' ≡ out) × (used' ≡ used))
+LeavesWith (Some folder) names_from fleets asked status used used' out out' err err' =
+    LeavesDocuments folder names_from fleets asked status used used' out out' err err'
+    ⊎ (RefusesDocuments folder asked.jobs status err err' × (out' ≡ out) × (used' ≡ used))
 
 -- the jobs to which a list of these bytes leads are checked, or the list is refused, no line is written and nothing
 -- more read
-abbrev pub LeavesFound : Bool → Option (List ℕ) → List ℕ → Asked → Status → List FileUse → List FileUse →
-    OutletState → OutletState → OutletState → OutletState → Type 0
-LeavesFound allows_empty names_from names asked status used used' out out' err err' =
+abbrev pub LeavesFound : Bool → Option (List ℕ) → (fleets : List (List ℕ)) → List ℕ → Asked → Status → List FileUse →
+    List FileUse → OutletState → OutletState → OutletState → OutletState → Type 0
+LeavesFound allows_empty names_from fleets names asked status used used' out out' err err' =
     (IsFalse (is_refused_list allows_empty names asked.jobs)
-    × LeavesWith asked.telling.documents names_from asked status used used' out out' err err')
+    × LeavesWith asked.telling.documents names_from fleets asked status used used' out out' err err')
     ⊎ (IsTrue (is_refused_list allows_empty names asked.jobs)
     × RefusesList (path_of names_from) (list_fault names) status err err' × (out' ≡ out) × (used' ≡ used))
 
@@ -171,5 +183,6 @@ abbrev pub LeavesChecks : Asking → Status → List FileUse → List FileUse �
     OutletState → Type 0
 LeavesChecks asking status used used' out out' err err' =
     ((asked : Asked) × (between : List FileUse) × (had : Completes asking asked used between)
-    × LeavesFound asking.allows_empty asking.names_from had.names asked status between used' out out' err err')
+    × LeavesFound asking.allows_empty asking.names_from asking.fleets had.names asked status between used' out out' err
+    err')
     ⊎ (LacksSome asking.fleets asking.names_from status err err' × (out' ≡ out))

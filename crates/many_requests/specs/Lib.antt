@@ -1,7 +1,9 @@
+pub mod AskedDocuments
 pub mod Checks
 pub mod Comparisons
 pub mod Documents
 pub mod DrawnJobs
+pub mod Folders
 pub mod GoldenJobs
 pub mod Inputs
 pub mod Lists

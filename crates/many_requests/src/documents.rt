@@ -1,16 +1,19 @@
 //! The documents of jobs that are checked, each a file in a folder.
-ghost use Rattle.std.specs.Prelude.{◌≡◌, ◌⊎◌, ◌&&◌, ◌++◌, IfNone, IfOk, IfSome, IsFalse, List, ℕ};
-ghost use Rattle.std.specs.Prelude.{None, OnOk, Some, map, option_map};
+ghost use Rattle.std.specs.Prelude.{◌≡◌, ◌⊎◌, ◌&&◌, ◌++◌, Contains, IfNone, IfOk, IfSome, IsFalse};
+ghost use Rattle.std.specs.Prelude.{List, MatchOption, None, OnOk, Some, map, option_map, ℕ};
+ghost use Rattle.std.specs.Str.{IsUtf8, bytes_eq};
 ghost use Rattle.job_rows.specs.Links.{document_path};
-ghost use Rattle.many_jobs.specs.Asked.{asked_for};
 ghost use Rattle.many_jobs.specs.JobRow.{document_in};
+ghost use Rattle.many_requests.specs.AskedDocuments.{documents_asked};
+ghost use Rattle.many_requests.specs.Documents.{IsReadBeside, IsReadBy, IsReadForJobs};
 ghost use Rattle.many_requests.specs.Documents.{LosesDocument, RefusesName, WritesBehind};
 ghost use Rattle.many_requests.specs.Documents.{WritesDocument};
 ghost use Rattle.many_requests.specs.Documents.{WritesDocuments, WritesIfSound, WritesPdf};
-ghost use Rattle.many_requests.specs.Documents.{cause_of, cause_part, document_text, end_with};
+ghost use Rattle.many_requests.specs.Documents.{cause_of, document_text, end_with, has_errors};
 ghost use Rattle.many_requests.specs.Documents.{ends_in_pdf, has_lines, has_same_part, is_named_in};
-ghost use Rattle.many_requests.specs.Documents.{is_taken, is_written};
-ghost use Rattle.many_requests.specs.Documents.{lost_line, same_line, same_named};
+ghost use Rattle.many_requests.specs.Documents.{is_namesake, is_quiet, is_taken, is_told};
+ghost use Rattle.many_requests.specs.Documents.{is_written, lost_line, namesake, other_part};
+ghost use Rattle.many_requests.specs.Documents.{same_line, same_named};
 ghost use Rattle.requests.specs.Status.{error_words};
 
 use crate::drawn_jobs::is_same_file;
@@ -26,6 +29,20 @@ use std::fs;
 use std::io::Print;
 use std::rt::Files;
 use streams::{Error, FilesUsed, Outlet, write_text};
+
+/// The documents of jobs that were checked: what was asked for, the folder that has them, and what
+/// else the check read.
+#[derive(Clone, Copy)]
+pub(crate) struct Documents<'d, 'w, 'n> {
+    pub folder: &'d str,
+    pub many: &'d ManyJobs<'w, 'n>,
+    /// The texts of the fleets.
+    pub fleets: &'d [&'d str],
+    /// The file of the names of the jobs.
+    pub names_from: Option<&'d str>,
+    /// The check told that a job has no verdict.
+    pub has_errors: bool,
+}
 
 // ---- names
 
@@ -44,7 +61,7 @@ pub(crate) fn refuse_names<E: Outlet>(
 {
     match same_named(jobs) {
         None => None,
-        Some(job) => Some(refuse_name(alloc, job, stderr)),
+        Some(job) => Some(refuse_name(alloc, jobs, job, stderr)),
     }
 }
 
@@ -94,28 +111,74 @@ fn has_same_part(part: &[u8], job: &[u8]) -> bool
     last_part(job) == part
 }
 
-fn refuse_name<E: Outlet>(alloc: Global, job: &[u8], stderr: &mut E) -> Status
+/// Refuses this one of the jobs, and names another one of its name, if there is one.
+fn refuse_name<E: Outlet>(alloc: Global, jobs: &[&[u8]], job: &[u8], stderr: &mut E) -> Status
     requires { IsFalse (E.state stderr.old).failed }
-    ensures { (jobs : List (List ℕ)) → same_named jobs ≡ Some job.now →
-        RefusesName jobs result (E.state stderr.old) (E.state stderr.new) }
+    ensures { same_named (map (λ job. job.now) jobs.now) ≡ Some job.now →
+        RefusesName (map (λ job. job.now) jobs.now) result
+        (E.state stderr.old) (E.state stderr.new) }
 {
-    match same_line(alloc, job) {
+    match same_line(alloc, job, namesake(jobs, job)) {
         Ok(line) => refuse_words(line.as_slice(), stderr),
         Err(_) => Status::Stopped(Error::Memory),
     }
 }
 
-/// The line on such a job.
-fn same_line(alloc: Global, job: &[u8]) -> Result<Vec<u8>, AllocError>
-    ensures { IfOk result (λ line. line.items ≡ same_line job.now) }
+/// The first of the jobs that has the name of this one, at another path.
+fn namesake<'n>(jobs: &[&'n [u8]], job: &[u8]) -> Option<&'n [u8]>
+    ensures { option_map (λ other. other.now) result
+        ≡ namesake job.now (map (λ job. job.now) jobs.now) }
+{
+    for other in jobs {
+        if is_namesake(job, other) {
+            return Some(*other);
+        }
+    }
+    None
+}
+
+fn is_namesake(job: &[u8], other: &[u8]) -> bool
+    ensures { result ≡ is_namesake job.now other.now }
+{
+    has_same_part(last_part(job), other) && !is_same_path(job, other)
+}
+
+fn is_same_path(job: &[u8], other: &[u8]) -> bool
+    ensures { result ≡ bytes_eq other.now job.now }
+{
+    other == job
+}
+
+/// The line on such a job, and on another one of its name.
+fn same_line(alloc: Global, job: &[u8], other: Option<&[u8]>) -> Result<Vec<u8>, AllocError>
+    ensures { IfOk result (λ line. line.items
+        ≡ same_line job.now (option_map (λ other. other.now) other.entry)) }
 {
     let mut line = Vec::new(alloc);
     line.extend_from_slice(b"error: ")?;
     push_named_first(alloc, &mut line, job)?;
+    push_other(alloc, &mut line, other)?;
     line.extend_from_slice(
         b"with --pdf no two jobs have one name, and none ends in .pdf: each gets a file NAME.pdf\n",
     )?;
     Ok(line)
+}
+
+fn push_other(alloc: Global, line: &mut Vec<u8>, other: Option<&[u8]>) -> Result<(), AllocError>
+    ensures { OnOk result (line.new.items ≡ line.old.items
+        ++ other_part (option_map (λ other. other.now) other.entry)) }
+{
+    match other {
+        None => Ok(()),
+        Some(other) => push_beside(alloc, line, other),
+    }
+}
+
+fn push_beside(alloc: Global, line: &mut Vec<u8>, other: &[u8]) -> Result<(), AllocError>
+    ensures { OnOk result (line.new.items ≡ line.old.items ++ other_part (Some other.now)) }
+{
+    line.extend_from_slice(b"beside ")?;
+    push_named_first(alloc, line, other)
 }
 
 // ---- documents
@@ -125,17 +188,16 @@ fn same_line(alloc: Global, job: &[u8]) -> Result<Vec<u8>, AllocError>
 /// all could be told.
 pub(crate) fn write_documents<R: Files + Print + AllocGlobal, E: Outlet>(
     rt: &R,
-    folder: &str,
-    many: &ManyJobs<'_, '_>,
+    documents: &Documents<'_, '_, '_>,
     answer: Status,
     used: &mut FilesUsed,
     stderr: &mut E,
 ) -> Status
-    ensures { WritesBehind (has_lines answer) folder.now (asked_for many.now) answer result
+    ensures { WritesBehind (has_lines answer) (documents_asked documents.now) answer result
         used.old used.new (E.state stderr.old) (E.state stderr.new) }
 {
     if has_lines(answer) {
-        let is_well = write_all(rt, folder, many, many.jobs, used, stderr);
+        let is_well = write_all(rt, documents, documents.many.jobs, used, stderr);
         return end_with(is_well, answer);
     }
     answer
@@ -148,6 +210,24 @@ fn has_lines(answer: Status) -> bool
     match answer {
         Status::Pass | Status::Fail | Status::Told(Trouble::NoVerdict) => true,
         Status::Help
+        | Status::Usage
+        | Status::Overwrites(_)
+        | Status::NotAllowed(_)
+        | Status::Profile { .. }
+        | Status::Stopped(_)
+        | Status::Told(Trouble::Refused | Trouble::Mismatch) => false,
+    }
+}
+
+/// Whether a check that ended so told that a job has no verdict.
+pub(crate) fn has_errors(answer: Status) -> bool
+    ensures { result ≡ has_errors answer }
+{
+    match answer {
+        Status::Told(Trouble::NoVerdict) => true,
+        Status::Pass
+        | Status::Fail
+        | Status::Help
         | Status::Usage
         | Status::Overwrites(_)
         | Status::NotAllowed(_)
@@ -170,18 +250,17 @@ fn end_with(is_well: bool, answer: Status) -> Status
 /// Writes the document of each of these jobs, and answers whether each was written.
 fn write_all<R: Files + Print + AllocGlobal, E: Outlet>(
     rt: &R,
-    folder: &str,
-    many: &ManyJobs<'_, '_>,
+    documents: &Documents<'_, '_, '_>,
     jobs: &[&[u8]],
     used: &mut FilesUsed,
     stderr: &mut E,
 ) -> bool
-    ensures { WritesDocuments folder.now (asked_for many.now) (map (λ job. job.now) jobs.now)
+    ensures { WritesDocuments (documents_asked documents.now) (map (λ job. job.now) jobs.now)
         result used.old used.new (E.state stderr.old) (E.state stderr.new) }
 {
     let mut is_well = true;
     for job in jobs {
-        let is_written = write_document(rt, folder, many, job, used, stderr);
+        let is_written = write_document(rt, documents, job, used, stderr);
         is_well = both(is_well, is_written);
     }
     is_well
@@ -197,21 +276,20 @@ fn both(one: bool, other: bool) -> bool
 /// written, or none is due.
 fn write_document<R: Files + Print + AllocGlobal, E: Outlet>(
     rt: &R,
-    folder: &str,
-    many: &ManyJobs<'_, '_>,
+    documents: &Documents<'_, '_, '_>,
     job: &[u8],
     used: &mut FilesUsed,
     stderr: &mut E,
 ) -> bool
-    ensures { WritesDocument folder.now (asked_for many.now) job.now result
+    ensures { WritesDocument (documents_asked documents.now) job.now result
         used.old used.new (E.state stderr.old) (E.state stderr.new) }
 {
-    if is_read_once(&many.telling, job) {
+    if is_read_once(&documents.many.telling, job) {
         return true;
     }
-    let word = word_of(many.printers, 1);
-    match path_of(rt.alloc(), folder, job) {
-        Ok(path) => write_at(rt, many, word, job, path.as_slice(), used, stderr),
+    let word = word_of(documents.many.printers, 1);
+    match path_of(rt.alloc(), documents.folder, job) {
+        Ok(path) => write_at(rt, documents, word, job, path.as_slice(), used, stderr),
         Err(_) => {
             tell_lost(rt.alloc(), job, Error::Memory, stderr);
             false
@@ -219,27 +297,25 @@ fn write_document<R: Files + Print + AllocGlobal, E: Outlet>(
     }
 }
 
-/// Writes the document of the job of this name to the file at a path.
+/// Writes the document of the job of this name to the file at a path. Of a name that is no text the
+/// check told that the job cannot be read.
 fn write_at<R: Files + Print + AllocGlobal, E: Outlet>(
     rt: &R,
-    many: &ManyJobs<'_, '_>,
+    documents: &Documents<'_, '_, '_>,
     word: &str,
     job: &[u8],
     path: &[u8],
     used: &mut FilesUsed,
     stderr: &mut E,
 ) -> bool
-    ensures { WritesPdf word.now job.now path.now result used.old used.new
-        (E.state stderr.old) (E.state stderr.new)
-        ⊎ LosesDocument job.now result used.old used.new
-        (E.state stderr.old) (E.state stderr.new) }
+    ensures { WritesPdf (documents_asked documents.now) word.now job.now path.now result
+        used.old used.new (E.state stderr.old) (E.state stderr.new)
+        ⊎ LosesDocument (documents_asked documents.now) job.now path.now result
+        used.old used.new (E.state stderr.old) (E.state stderr.new) }
 {
     match as_texts(job, path) {
-        Some((name, path)) => write_apart(rt, many, word, name, path, used, stderr),
-        None => {
-            tell_lost(rt.alloc(), job, Error::Read, stderr);
-            false
-        }
+        Some((name, path)) => write_apart(rt, documents, word, name, path, used, stderr),
+        None => false,
     }
 }
 
@@ -247,43 +323,112 @@ fn write_at<R: Files + Print + AllocGlobal, E: Outlet>(
 /// the check reads.
 fn write_apart<R: Files + Print + AllocGlobal, E: Outlet>(
     rt: &R,
-    many: &ManyJobs<'_, '_>,
+    documents: &Documents<'_, '_, '_>,
     word: &str,
     job: &str,
     path: &str,
     used: &mut FilesUsed,
     stderr: &mut E,
 ) -> bool
-    ensures { WritesPdf word.now job.now path.now result used.old used.new
-        (E.state stderr.old) (E.state stderr.new)
-        ⊎ LosesDocument job.now result used.old used.new
-        (E.state stderr.old) (E.state stderr.new) }
+    ensures { WritesPdf (documents_asked documents.now) word.now job.now path.now result
+        used.old used.new (E.state stderr.old) (E.state stderr.new)
+        ⊎ LosesDocument (documents_asked documents.now) job.now path.now result
+        used.old used.new (E.state stderr.old) (E.state stderr.new) }
 {
-    if is_read(rt, many, path) {
-        tell_lost(rt.alloc(), job.as_bytes(), Error::Write, stderr);
-        return false;
+    match read_there(rt, documents, path) {
+        Some(_) => {
+            tell_lost(rt.alloc(), job.as_bytes(), Error::Write, stderr);
+            false
+        }
+        None => write_pdf(rt, documents, word, job, path, used, stderr),
     }
-    write_pdf(rt, word, job, path, used, stderr)
 }
 
-/// Whether a path leads to a file that the check reads. No clause can say what stands at a path.
-fn is_read<R: Files>(rt: &R, many: &ManyJobs<'_, '_>, path: &str) -> bool {
-    is_profile(rt, many.printers, path) || is_link_to_job(rt, many.jobs, path)
+// ---- files that are read
+
+/// The file that the check reads and to which a path leads, if there is one. No clause can say what
+/// stands at a path.
+fn read_there<'d, R: Files>(
+    rt: &R,
+    documents: &'d Documents<'_, '_, '_>,
+    path: &str,
+) -> Option<&'d [u8]>
+    ensures { IfSome result (λ name. IsReadBy (documents_asked documents.now) name.now) }
+{
+    match first_same(rt, documents.many.printers, path) {
+        Some(word) => Some(word.as_bytes()),
+        None => read_beside(rt, documents, path),
+    }
 }
 
-/// Whether a path leads to the profile of a printer.
-fn is_profile<R: Files>(rt: &R, printers: &[&str], path: &str) -> bool {
-    for word in printers {
+/// The same, where it is no profile.
+fn read_beside<'d, R: Files>(
+    rt: &R,
+    documents: &'d Documents<'_, '_, '_>,
+    path: &str,
+) -> Option<&'d [u8]>
+    ensures { IfSome result (λ name. IsReadBeside (documents_asked documents.now) name.now) }
+{
+    match first_same(rt, documents.fleets, path) {
+        Some(fleet) => Some(fleet.as_bytes()),
+        None => read_for_jobs(rt, documents, path),
+    }
+}
+
+/// The same, where it is no text of a fleet either.
+fn read_for_jobs<'d, R: Files>(
+    rt: &R,
+    documents: &'d Documents<'_, '_, '_>,
+    path: &str,
+) -> Option<&'d [u8]>
+    ensures { IfSome result (λ name. IsReadForJobs (documents_asked documents.now) name.now) }
+{
+    match same_list(rt, documents.names_from, path) {
+        Some(list) => Some(list.as_bytes()),
+        None => linked_job(rt, documents.many.jobs, path),
+    }
+}
+
+/// The first of these words that leads to the same file.
+fn first_same<'w, R: Files>(rt: &R, words: &[&'w str], path: &str) -> Option<&'w str>
+    ensures { IfSome result (λ word. Contains (map (λ word. word.now) words.now) word.now) }
+{
+    for word in words {
         if is_same_file(rt, path, word) {
-            return true;
+            return Some(*word);
         }
     }
-    false
+    None
 }
 
-/// Whether a path is a link to a job. A job of the path's own name ends in `.pdf`, and was refused.
-fn is_link_to_job<R: Files>(rt: &R, jobs: &[&[u8]], path: &str) -> bool {
-    is_link(rt, path) && is_job(rt, jobs, path)
+/// The list of jobs, where it is the same file.
+fn same_list<'l, R: Files>(rt: &R, names_from: Option<&'l str>, path: &str) -> Option<&'l str>
+    ensures { IfSome result (λ list.
+        option_map (λ path. path.now) names_from.entry ≡ Some list.now) }
+{
+    match names_from {
+        None => None,
+        Some(list) => list_there(rt, list, path),
+    }
+}
+
+fn list_there<'l, R: Files>(rt: &R, list: &'l str, path: &str) -> Option<&'l str>
+    ensures { IfSome result (λ found. found.now ≡ list.now) }
+{
+    if is_same_file(rt, path, list) {
+        return Some(list);
+    }
+    None
+}
+
+/// The job to which a path is a link. A job of the path's own name ends in `.pdf`, and was refused.
+fn linked_job<'n, R: Files>(rt: &R, jobs: &[&'n [u8]], path: &str) -> Option<&'n [u8]>
+    ensures { IfSome result (λ job. Contains (map (λ job. job.now) jobs.now) job.now) }
+{
+    if is_link(rt, path) {
+        return first_job(rt, jobs, path);
+    }
+    None
 }
 
 fn is_link<R: Files>(rt: &R, path: &str) -> bool {
@@ -293,13 +438,16 @@ fn is_link<R: Files>(rt: &R, path: &str) -> bool {
     }
 }
 
-fn is_job<R: Files>(rt: &R, jobs: &[&[u8]], path: &str) -> bool {
+/// The first of the jobs that is the file to which a path leads.
+fn first_job<'n, R: Files>(rt: &R, jobs: &[&'n [u8]], path: &str) -> Option<&'n [u8]>
+    ensures { IfSome result (λ job. Contains (map (λ job. job.now) jobs.now) job.now) }
+{
     for job in jobs {
         if is_at(rt, job, path) {
-            return true;
+            return Some(*job);
         }
     }
-    false
+    None
 }
 
 fn is_at<R: Files>(rt: &R, job: &[u8], path: &str) -> bool {
@@ -309,13 +457,27 @@ fn is_at<R: Files>(rt: &R, job: &[u8], path: &str) -> bool {
     }
 }
 
+// ---- a document
+
 /// A name and a path, where both are texts.
 fn as_texts<'t>(name: &'t [u8], path: &'t [u8]) -> Option<(&'t str, &'t str)>
-    ensures { IfSome result (λ texts. (texts.0.now ≡ name.now) × (texts.1.now ≡ path.now)) }
+    ensures { MatchOption result (IsUtf8 name.now → IsUtf8 path.now → ⊥)
+        (λ texts. (texts.0.now ≡ name.now) × (texts.1.now ≡ path.now)) }
 {
-    match (str::from_utf8(name), str::from_utf8(path)) {
-        (Ok(name), Ok(path)) => Some((name, path)),
-        _ => None,
+    match str::from_utf8(name) {
+        Ok(text) => with_path(text, path),
+        Err(_) => None,
+    }
+}
+
+/// A text and a path, where this is a text.
+fn with_path<'t>(text: &'t str, path: &'t [u8]) -> Option<(&'t str, &'t str)>
+    ensures { MatchOption result (IsUtf8 path.now → ⊥)
+        (λ texts. (texts.0.now ≡ text.now) × (texts.1.now ≡ path.now)) }
+{
+    match str::from_utf8(path) {
+        Ok(path) => Some((text, path)),
+        Err(_) => None,
     }
 }
 
@@ -332,13 +494,14 @@ fn path_of(alloc: Global, folder: &str, job: &[u8]) -> Result<Vec<u8>, AllocErro
 /// Writes the document of the job at a path to another, for the printer that a word names.
 fn write_pdf<R: Files + Print + AllocGlobal, E: Outlet>(
     rt: &R,
+    documents: &Documents<'_, '_, '_>,
     word: &str,
     job: &str,
     path: &str,
     used: &mut FilesUsed,
     stderr: &mut E,
 ) -> bool
-    ensures { WritesPdf word.now job.now path.now result
+    ensures { WritesPdf (documents_asked documents.now) word.now job.now path.now result
         used.old used.new (E.state stderr.old) (E.state stderr.new) }
 {
     let asked = PdfAsked {
@@ -352,16 +515,18 @@ fn write_pdf<R: Files + Print + AllocGlobal, E: Outlet>(
             has_boxes: false,
         },
         is_proof: false,
+        most_items: documents.many.most_items,
     };
     // The line of a failure stands in the report.
     let mut line = KeptText::new(rt.alloc());
     let mut note = KeptText::new(rt.alloc());
     let status = pdf(rt, &asked, path, used, &mut line, &mut note);
-    tell_document(rt.alloc(), job, status, note, stderr);
+    tell_document(rt.alloc(), documents.has_errors, job, status, note, stderr);
     is_written(status)
 }
 
-/// Whether a document was written, or the job has no page.
+/// Whether a document was written, or none is due: the job has no page, or was given up at the
+/// limit of items, as the report tells.
 fn is_written(status: Status) -> bool
     ensures { result ≡ is_written status }
 {
@@ -379,38 +544,53 @@ fn is_written(status: Status) -> bool
 
 // ---- what is told of them
 
-/// Tells standard error of the document of a job, where something is to be told: what was noted of
-/// it, and why it could not be written. Without memory nothing is told.
+/// Tells standard error of the document of a job, where it could not be written, and the check did
+/// not tell that: what was noted of it, and why. Without memory nothing is told.
 fn tell_document<E: Outlet>(
     alloc: Global,
+    has_errors: bool,
     job: &str,
     status: Status,
     note: KeptText<Global>,
     stderr: &mut E,
 )
-    ensures { WritesIfSound (document_text job.now status note.taken)
+    ensures { WritesIfSound (document_text has_errors job.now status note.taken)
         (E.state stderr.old) (E.state stderr.new) }
 {
+    if is_quiet(has_errors, status) {
+        return;
+    }
     let mut text = note.into_bytes();
-    match push_cause(alloc, &mut text, job.as_bytes(), status) {
+    match push_lost_line(alloc, &mut text, job.as_bytes(), cause_of(status)) {
         Ok(()) => write_if_sound(text.as_slice(), stderr),
         Err(_) => {}
     }
 }
 
-/// Appends why a document could not be written, where it could not.
-fn push_cause(
-    alloc: Global,
-    text: &mut Vec<u8>,
-    job: &[u8],
-    status: Status,
-) -> Result<(), AllocError>
-    ensures { OnOk result (text.new.items ≡ text.old.items ++ cause_part job.now status) }
+/// Whether nothing is to be told of a document.
+fn is_quiet(has_errors: bool, status: Status) -> bool
+    ensures { result ≡ is_quiet has_errors status }
 {
-    if is_written(status) {
-        return Ok(());
+    is_written(status) || is_told(has_errors, status)
+}
+
+/// Whether the check told why the document of a job could not be written, where it told that a job
+/// has no verdict: the job could not be read.
+fn is_told(has_errors: bool, status: Status) -> bool
+    ensures { result ≡ is_told has_errors status }
+{
+    match status {
+        Status::Stopped(Error::Read | Error::Turns) => has_errors,
+        Status::Stopped(Error::Memory | Error::Write | Error::NoProfile | Error::Items)
+        | Status::Pass
+        | Status::Fail
+        | Status::Help
+        | Status::Usage
+        | Status::Overwrites(_)
+        | Status::NotAllowed(_)
+        | Status::Profile { .. }
+        | Status::Told(_) => false,
     }
-    push_lost_line(alloc, text, job, cause_of(status))
 }
 
 /// Why a document could not be written, where the command ended so.

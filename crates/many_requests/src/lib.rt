@@ -4,6 +4,7 @@
 mod compared_jobs;
 mod documents;
 mod drawn_jobs;
+mod folders;
 mod golden_jobs;
 mod inputs;
 mod lists;

@@ -8,7 +8,8 @@ ghost use Rattle.many_requests.specs.Names.{names_in};
 ghost use Rattle.many_jobs.specs.Asked.{asked_for, told_by};
 ghost use Rattle.many_jobs.specs.FleetFile.{TellsOfFleet};
 
-use crate::documents::{refuse_names, write_documents};
+use crate::documents::{Documents, has_errors, write_documents};
+use crate::folders::refuse_documents;
 use crate::inputs::refuse_inputs;
 use crate::lists::{is_refused_list, list_fault, path_of, refuse_list};
 use crate::names::{push_names, read_names};
@@ -83,7 +84,8 @@ fn check_found<'r, R: Files + Input + Print + AllocGlobal, O: Outlet, E: Outlet>
     requires stderr { IsFalse (E.state stderr.old).failed }
     requires some { many.now.printers.now ≢ [] }
     ensures { LeavesFound words.now.allows_empty
-        (option_map (λ path. path.now) words.now.names_from) names.now (asked_for many.now)
+        (option_map (λ path. path.now) words.now.names_from)
+        (map (λ path. path.now) words.now.fleets.items) names.now (asked_for many.now)
         result used.old used.new (O.state stdout.old) (O.state stdout.new)
         (E.state stderr.old) (E.state stderr.new) }
 {
@@ -91,14 +93,16 @@ fn check_found<'r, R: Files + Input + Print + AllocGlobal, O: Outlet, E: Outlet>
         let path = path_of(words.names_from);
         return refuse_list(rt.alloc(), path, list_fault(names), stderr);
     }
-    check_with_documents(rt, words.names_from, many, used, stdout, stderr)
+    let fleets = words.fleets.as_slice();
+    check_with_documents(rt, words.names_from, fleets, many, used, stdout, stderr)
 }
 
 /// Checks all jobs that are asked for, and writes their documents, where a folder is to have them.
-/// `names_from` is the file of their names.
+/// `names_from` is the file of their names, and `fleets` the texts that name printers.
 fn check_with_documents<'r, R: Files + Input + Print + AllocGlobal, O: Outlet, E: Outlet>(
     rt: &'r R,
     names_from: Option<&str>,
+    fleets: &[&str],
     many: &ManyJobs<'_, 'r>,
     used: &mut FilesUsed,
     stdout: &mut O,
@@ -108,22 +112,24 @@ fn check_with_documents<'r, R: Files + Input + Print + AllocGlobal, O: Outlet, E
     requires stderr { IsFalse (E.state stderr.old).failed }
     requires some { many.now.printers.now ≢ [] }
     ensures { LeavesWith (asked_for many.now).telling.documents
-        (option_map (λ path. path.now) names_from.entry) (asked_for many.now)
+        (option_map (λ path. path.now) names_from.entry) (map (λ path. path.now) fleets.now)
+        (asked_for many.now)
         result used.old used.new (O.state stdout.old) (O.state stdout.new)
         (E.state stderr.old) (E.state stderr.new) }
 {
     match many.telling.documents {
         None => check_all(rt, names_from, many, used, stdout, stderr),
-        Some(folder) => check_into(rt, folder, names_from, many, used, stdout, stderr),
+        Some(folder) => check_into(rt, folder, names_from, fleets, many, used, stdout, stderr),
     }
 }
 
 /// Checks all jobs that are asked for, and writes their documents in a folder. `names_from` is the
-/// file of their names.
+/// file of their names, and `fleets` the texts that name printers.
 fn check_into<'r, R: Files + Input + Print + AllocGlobal, O: Outlet, E: Outlet>(
     rt: &'r R,
     folder: &str,
     names_from: Option<&str>,
+    fleets: &[&str],
     many: &ManyJobs<'_, 'r>,
     used: &mut FilesUsed,
     stdout: &mut O,
@@ -133,15 +139,23 @@ fn check_into<'r, R: Files + Input + Print + AllocGlobal, O: Outlet, E: Outlet>(
     requires stderr { IsFalse (E.state stderr.old).failed }
     requires some { many.now.printers.now ≢ [] }
     ensures { LeavesWith (Some folder.now)
-        (option_map (λ path. path.now) names_from.entry) (asked_for many.now)
+        (option_map (λ path. path.now) names_from.entry) (map (λ path. path.now) fleets.now)
+        (asked_for many.now)
         result used.old used.new (O.state stdout.old) (O.state stdout.new)
         (E.state stderr.old) (E.state stderr.new) }
 {
-    if let Some(status) = refuse_names(rt.alloc(), many.jobs, stderr) {
+    if let Some(status) = refuse_documents(rt, folder, many.jobs, stderr) {
         return status;
     }
     let answer = check_all(rt, names_from, many, used, stdout, stderr);
-    write_documents(rt, folder, many, answer, used, stderr)
+    let documents = Documents {
+        folder,
+        many,
+        fleets,
+        names_from,
+        has_errors: has_errors(answer),
+    };
+    write_documents(rt, &documents, answer, used, stderr)
 }
 
 /// Checks all jobs that are asked for, unless one would be read again that can be read only once.

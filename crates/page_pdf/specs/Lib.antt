@@ -4,6 +4,7 @@ pub mod FixedObjects
 pub mod ObjectParts
 pub mod Figures
 pub mod Hexes
+pub mod Titles
 pub mod Codes
 pub mod Marks
 pub mod Bands

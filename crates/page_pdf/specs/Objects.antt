@@ -8,6 +8,7 @@ use Rattle.page_pdf.specs.declared.object_parts.ObjectPart.TheVariants as parts
 use Rattle.page_pdf.specs.Figures.{points}
 use Rattle.page_pdf.specs.Hexes.{letter_codes}
 use Rattle.page_pdf.specs.ObjectParts.{object_part}
+use Rattle.page_pdf.specs.Titles.{title_codes}
 
 -- ---- an object
 
@@ -83,7 +84,7 @@ pages_body count =
 -- the names of the job and of the printer
 unfoldable pub information_body : (job printer : List ℕ) → List ℕ
 information_body job printer =
-    object_part parts.Title ++ letter_codes job ++ object_part parts.Subject ++ letter_codes printer
+    object_part parts.Title ++ title_codes job ++ object_part parts.Subject ++ title_codes printer
     ++ object_part parts.InformationEnd
 
 -- the verdict, as it stands at the foot of each page: what stands round it has 29 bytes, and a letter has two

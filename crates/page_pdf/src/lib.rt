@@ -20,5 +20,6 @@ mod pending;
 mod starts;
 mod strings;
 mod table;
+mod titles;
 
 pub use document::{Document, PageSheet};

@@ -21,6 +21,7 @@ ghost use Rattle.page_pdf.specs.Objects.{
 use crate::figures::{push_count, push_points};
 use crate::hexes::push_letters;
 use crate::object_parts::ObjectPart;
+use crate::titles::push_title;
 use device_profile::Geometry;
 use page_env::PageEnd;
 use shown_bytes::push_number;
@@ -203,9 +204,9 @@ pub(crate) fn push_information_body<A: Allocator>(
         (text.new.items ≡ text.old.items ++ information_body job.now printer.now) }
 {
     text.extend_from_slice(ObjectPart::Title.bytes())?;
-    push_letters(text, job)?;
+    push_title(text, job)?;
     text.extend_from_slice(ObjectPart::Subject.bytes())?;
-    push_letters(text, printer)?;
+    push_title(text, printer)?;
     text.extend_from_slice(ObjectPart::InformationEnd.bytes())
 }
 

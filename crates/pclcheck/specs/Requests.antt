@@ -1,7 +1,7 @@
 -- What the program leaves of what it is asked for. Nothing is known of its files beforehand; the history of files tells
 -- which were read and which were written, and under which words texts of profiles were asked for.
 use Rattle.renderings.specs.Expected.{list_rendering}
-use Rattle.std.specs.Prelude.{◌≡◌, List, ℕ, Option, map, option_map, IsFalse, IsTrue}
+use Rattle.std.specs.Prelude.{◌≡◌, List, ℕ, None, Option, map, option_map, IsFalse, IsTrue}
 use Rattle.requests.specs.declared.request.Request.{Request}
 use Rattle.requests.specs.declared.request.Request.TheVariants as requests
 use Rattle.streams.specs.Outlet.{OutletState}
@@ -49,7 +49,7 @@ Fulfils texts (requests.Pages job profile) status used used' out out' err err' =
 Fulfils texts (requests.Picture job profile choices selection) status used used' out out' err err' =
     LeavesPictureFor profile.now choices.items selection job.now status used used' out out' err err'
 Fulfils texts (requests.Pdf job profile choices selection is_proof file) status used used' out out' err err' =
-    LeavesPdfAt job.now file.now profile.now choices.items selection is_proof status used used' out out' err err'
+    LeavesPdfAt job.now file.now profile.now None choices.items selection is_proof status used used' out out' err err'
 Fulfils texts (requests.Notes job profile) status used used' out out' err err' =
     LeavesNotesFor job.now profile.now status used used' out out' × (err' ≡ err)
 Fulfils texts (requests.Plain job file) status used used' out out' err err' =

@@ -72,6 +72,7 @@ pub fn fulfil<R: Files + Input + Print + AllocGlobal, O: Outlet, E: Outlet>(
                 setting: PanelSetting { profile, choices },
                 selection: *selection,
                 is_proof: *is_proof,
+                most_items: None,
             };
             pdf(rt, &asked, out, used, stdout, stderr)
         }

@@ -1,15 +1,17 @@
 -- What the command `pdf` leaves.
-use Rattle.std.specs.Prelude.{◌≡◌, ◌⊎◌, ℕ, Bool, true, false, not, ◌&&◌, List, [], ◌∷◌, Ok, Option, None}
+use Rattle.std.specs.Prelude.{◌≡◌, ◌⊎◌, ℕ, Bool, true, false, not, ◌&&◌, List, [], ◌∷◌, Ok, Err, Option, None, Result}
 use Rattle.std.specs.Prelude.{Some, IsFalse, IsTrue, ⊤}
 use Rattle.device_profile.specs.declared.panel.Panel.{Panel}
 use Rattle.device_profile.specs.Printer.{Printer}
 use Rattle.job_pdf.specs.JobPdf.{pdf_rendering}
 use Rattle.job_pdf.specs.Plan.{Plan}
 use Rattle.job_reports.specs.Groups.{Groups}
+use Rattle.job_reports.specs.Lines.{verdict_line}
 use Rattle.named_inputs.specs.Choices.{chosen_panel}
 use Rattle.picture_command.specs.PageSearch.{search_rendering}
 use Rattle.picture_command.specs.Picture.{HasNoEnd, IsErrorOfSearch, StopsSearch, TellsOutcome, is_missing}
 use Rattle.renderings.specs.declared.outcome.Outcome.{Outcome}
+use Rattle.renderings.specs.declared.outcome.Outcome.TheVariants.{Done as AllDone, Fail as FailsOf}
 use Rattle.renderings.specs.Expected.{Rendering}
 use Rattle.requests.specs.declared.choices.Choice.{Choice}
 use Rattle.requests.specs.declared.selection.DrawnPages.{DrawnPages}
@@ -18,11 +20,15 @@ use Rattle.requests.specs.declared.selection.Selection.{Selection}
 use Rattle.requests.specs.declared.status.Status.{Status}
 use Rattle.requests.specs.declared.status.Status.TheVariants.{Pass, Fail, Overwrites, NotAllowed, Profile, Stopped}
 use Rattle.requests.specs.Status.{is_answer, is_complete, is_stop_of_read, is_stop_of_write}
+use Rattle.streams.specs.declared.error.Error.{Error}
 use Rattle.streams.specs.declared.error.Error.TheVariants.{Turns}
-use Rattle.streams.specs.Outlet.{OutletState, Stays}
+use Rattle.streams.specs.Outlet.{Adds, OutletState, Stays}
 use Rattle.streams.specs.Source.{SourceState}
 use Rattle.streams.specs.Writing.{Writes}
 use Rattle.subcommands.specs.JobTexts.{IsUntouchedBeside, LeavesOut}
+use Rattle.verdict.specs.declared.reason.Reason.{Reason}
+use Rattle.verdict.specs.declared.verdict.Verdict.TheVariants.{Fail as FailOf}
+use Rattle.verdict.specs.Limits.{is_many_items}
 use Rattle.pdf_command.specs.declared.command.PdfEnd.{PdfEnd}
 
 -- these pages of the job of this name, for printers of this group
@@ -99,7 +105,32 @@ IsEndOfPages _ = ⊥
 
 -- OUT has all of a document
 abbrev pub has_document : PdfEnd → Bool
-has_document end = not end.lacks_page && is_complete end.status
+has_document end = not end.lacks_page && (not end.gives_up && is_complete end.status)
+
+-- ---- the limit of items
+
+-- the printer, whose macros may carry out so many items of a job, or are not limited
+abbrev pub limited : Option ℕ → Printer → Printer
+limited most printer = record printer { most_items = most }
+
+-- macros would carry out more items of a job than are allowed
+abbrev pub passes_limit : Result Outcome Error → Bool
+passes_limit (Ok (FailsOf place profile reason)) = is_many_items reason
+passes_limit (Ok AllDone) = false
+passes_limit (Err error) = false
+
+-- the line of the failure tells whether it is the limit
+pub record TellsLimit (gives_up : Bool) (line line' : OutletState) : Type 0 where
+  pub place : ℕ
+  pub profile : ℕ
+  pub reason : Reason
+  pub told : Adds line line' (verdict_line (FailOf place profile reason))
+  pub is_limit : gives_up ≡ is_many_items reason
+
+-- so where the work on the pages ended by a failure
+abbrev pub GivesUpBy : Status → (gives_up : Bool) → OutletState → OutletState → Type 0
+GivesUpBy Fail gives_up line line' = TellsLimit gives_up line line'
+GivesUpBy _ gives_up line line' = ⊤
 
 -- where the two readings of the job, OUT, standard output and standard error stood before and behind
 pub record Around : Type 0 where
@@ -151,9 +182,10 @@ abbrev pub DrawsBy : (lacks_page : Bool) → Status → Printer → Panel → Pl
 DrawsBy true status printer panel plan a = DrawsNone status printer panel plan a
 DrawsBy false status printer panel plan a = DrawsOrStops status printer panel plan a
 
--- what is left for a printer with this fact and this name, which the document tells, from the panel that is chosen
-pub record LeavesPdfOf (end : PdfEnd) (IsPrinter : Printer → List ℕ → Type 0) (choices : List Choice)
-    (selection : Selection) (is_proof : Bool) (name : List ℕ) (a : Around) : Type 0 where
+-- what is left for a printer with this fact and this name, which the document tells, with this limit of items and from
+-- the panel that is chosen
+pub record LeavesPdfOf (end : PdfEnd) (IsPrinter : Printer → List ℕ → Type 0) (most : Option ℕ)
+    (choices : List Choice) (selection : Selection) (is_proof : Bool) (name : List ℕ) (a : Around) : Type 0 where
   pub printer : Printer
   pub printer_name : List ℕ
   pub is_printer : IsPrinter printer printer_name
@@ -162,23 +194,23 @@ pub record LeavesPdfOf (end : PdfEnd) (IsPrinter : Printer → List ℕ → Type
   pub group : Groups
   pub names_are : group.names ≡ printer_name ∷ []
   pub is_whole : group.is_each ≡ false
-  pub draws : DrawsBy end.lacks_page end.status printer panel (plan_of selection is_proof name group) a
+  pub draws : DrawsBy end.lacks_page end.status (limited most printer) panel (plan_of selection is_proof name group) a
 
 -- so, unless the profile is not had or the panel may not have a choice, by this status
-abbrev pub LeavesPdfBy : Status → PdfEnd → (Printer → List ℕ → Type 0) → List Choice → Selection → (is_proof : Bool) →
-    (name : List ℕ) → Around → Type 0
-LeavesPdfBy (Profile number line cause) end IsPrinter choices selection is_proof name a = IsUntouched a
-LeavesPdfBy (NotAllowed choice) end IsPrinter choices selection is_proof name a = IsUnsearched a
-LeavesPdfBy (Stopped error) end IsPrinter choices selection is_proof name a =
-    IsUntouched a ⊎ LeavesPdfOf end IsPrinter choices selection is_proof name a
-LeavesPdfBy status end IsPrinter choices selection is_proof name a =
-    LeavesPdfOf end IsPrinter choices selection is_proof name a
+abbrev pub LeavesPdfBy : Status → PdfEnd → (Printer → List ℕ → Type 0) → (most : Option ℕ) → List Choice →
+    Selection → (is_proof : Bool) → (name : List ℕ) → Around → Type 0
+LeavesPdfBy (Profile number line cause) end IsPrinter most choices selection is_proof name a = IsUntouched a
+LeavesPdfBy (NotAllowed choice) end IsPrinter most choices selection is_proof name a = IsUnsearched a
+LeavesPdfBy (Stopped error) end IsPrinter most choices selection is_proof name a =
+    IsUntouched a ⊎ LeavesPdfOf end IsPrinter most choices selection is_proof name a
+LeavesPdfBy status end IsPrinter most choices selection is_proof name a =
+    LeavesPdfOf end IsPrinter most choices selection is_proof name a
 
 -- what `pdf` leaves where it ends so
-abbrev pub LeavesPdf : PdfEnd → (Printer → List ℕ → Type 0) → List Choice → Selection → (is_proof : Bool) →
-    (name : List ℕ) → Around → Type 0
-LeavesPdf end IsPrinter choices selection is_proof name a =
-    LeavesPdfBy end.status end IsPrinter choices selection is_proof name a
+abbrev pub LeavesPdf : PdfEnd → (Printer → List ℕ → Type 0) → (most : Option ℕ) → List Choice → Selection →
+    (is_proof : Bool) → (name : List ℕ) → Around → Type 0
+LeavesPdf end IsPrinter most choices selection is_proof name a =
+    LeavesPdfBy end.status end IsPrinter most choices selection is_proof name a
 
 -- How the command ends. What it leaves has this fact; it stopped at a read or at a write just where one failed, and
 -- for its turns after 2^40 reads.

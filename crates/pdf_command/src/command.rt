@@ -5,9 +5,10 @@ ghost use Rattle.job_pdf.specs.JobPdf.{pdf_rendering};
 ghost use Rattle.job_pdf.specs.Plan.{plan_of};
 ghost use Rattle.named_inputs.specs.Choices.{TellsOfPin};
 ghost use Rattle.named_inputs.specs.Fleet.{IsNamed};
-ghost use Rattle.pdf_command.specs.Pdf.{CreatesForPages, EndsPdf, Finds, IsEndOfPages, LeavesPdf};
-ghost use Rattle.pdf_command.specs.Pdf.{first_page, first_wanted, has_document, is_lacking};
-ghost use Rattle.pdf_command.specs.Pdf.{is_stop_at_read, search_of};
+ghost use Rattle.pdf_command.specs.Pdf.{CreatesForPages, EndsPdf, Finds, GivesUpBy, IsEndOfPages};
+ghost use Rattle.pdf_command.specs.Pdf.{LeavesPdf, first_page, first_wanted, has_document};
+ghost use Rattle.pdf_command.specs.Pdf.{is_lacking, is_stop_at_read, limited, passes_limit};
+ghost use Rattle.pdf_command.specs.Pdf.{search_of};
 ghost use Rattle.picture_command.specs.Picture.{HasNoEnd, IsNamedBy};
 ghost use Rattle.requests.specs.Status.{is_overwriting, is_refused_choice};
 ghost use Rattle.subcommands.specs.JobTexts.{CreatesOnceOpen, EndsBy, JudgesFirst, LeavesOut};
@@ -16,7 +17,8 @@ use device_profile::{Panel, Profile};
 use job_pdf::{WantedPages, pdf_of};
 use job_reports::PrinterGroup;
 use named_inputs::{ProfileTexts, chosen_panel, refuse_choice};
-use picture_command::{Names, SearchedPages, find_pages, is_missing, read_printer};
+use picture_command::{NamedPrinter, Names, SearchedPages, find_pages, is_missing, read_printer};
+use renderings::Outcome;
 use requests::{DrawnPages, PanelSetting, Selection, Status};
 use std::alloc::Allocator;
 use streams::{Create, Error, FileId, Open, Outlet, Source, write_text};
@@ -32,14 +34,17 @@ pub struct PdfAsked<'a> {
     pub selection: Selection,
     /// Each page with its outlines and its foot.
     pub is_proof: bool,
+    /// How many items macros may carry out, where that is limited.
+    pub most_items: Option<u64>,
 }
 
-/// How the command ends, and whether the job lacks the page that is wanted, or any: then there is
-/// no document, and OUT is as it was.
+/// How the command ends, and whether the job lacks the page that is wanted, or any, or was given up
+/// at the limit of items: then there is no document, and OUT is as it was.
 #[derive(Clone, Copy)]
 pub struct PdfEnd {
     pub status: Status,
     pub lacks_page: bool,
+    pub gives_up: bool,
 }
 
 impl PdfEnd {
@@ -47,8 +52,15 @@ impl PdfEnd {
     pub fn is_whole(self) -> bool
         ensures { result ≡ has_document self }
     {
-        !self.lacks_page && self.status.is_complete()
+        !self.lacks_page && (!self.gives_up && self.status.is_complete())
     }
+}
+
+/// How the work on the pages ends, and whether the job was given up at the limit of items.
+#[derive(Clone, Copy)]
+struct PagesEnd {
+    status: Status,
+    gives_up: bool,
 }
 
 /// The pages that are wanted of a job, on a printer from a panel.
@@ -95,7 +107,8 @@ pub fn pdf<
         (IsNamedBy (T.given texts.old) (T.given texts.new)
         (IsNamed (T.text_of texts.old asked.now.setting.profile.now)
         (T.given texts.old) (T.given texts.new)))
-        asked.now.setting.choices.now asked.now.selection asked.now.is_proof asked.now.job.now)
+        asked.now.most_items asked.now.setting.choices.now asked.now.selection asked.now.is_proof
+        asked.now.job.now)
         (record {
           first = F.state first.old;
           first' = F.state first.new;
@@ -130,6 +143,9 @@ pub fn pdf<
         asked.now.setting.choices.now (E.state stderr.old) (E.state stderr.new) }
     ensures quiet { IsFalse (is_refused_choice result.status) → IsFalse result.lacks_page →
         stderr.new ≡ stderr.old }
+    // A job is given up just where the line of its failure tells the limit.
+    ensures limit { IsFalse result.lacks_page → GivesUpBy result.status result.gives_up
+        (O.state stdout.old) (O.state stdout.new) }
 {
     let printer = match read_printer(alloc, texts, asked.setting.profile) {
         Ok(printer) => printer,
@@ -137,6 +153,7 @@ pub fn pdf<
             return PdfEnd {
                 status,
                 lacks_page: false,
+                gives_up: false,
             };
         }
     };
@@ -147,13 +164,15 @@ pub fn pdf<
             return PdfEnd {
                 status,
                 lacks_page: false,
+                gives_up: false,
             };
         }
     };
+    let limited = limited_printer(printer, asked.most_items);
     // Sentences take the names of a group alone.
-    let printers = PrinterGroup::new(&[], &[], printer.names.as_slice(), false);
+    let printers = PrinterGroup::new(&[], &[], limited.names.as_slice(), false);
     let pages = PrinterPages {
-        profile: &printer.profile,
+        profile: &limited.profile,
         panel,
         wanted: WantedPages {
             selection: asked.selection,
@@ -165,11 +184,21 @@ pub fn pdf<
     if let Some(end) = end_without_page(alloc, first, &pages, stderr) {
         return end;
     }
-    let status = write_pages(alloc, job, texts.file(), &pages, out, stdout);
+    let written = write_pages(alloc, job, texts.file(), &pages, out, stdout);
     PdfEnd {
-        status,
+        status: written.status,
         lacks_page: false,
+        gives_up: written.gives_up,
     }
+}
+
+/// The printer, whose macros may carry out so many items of a job, or are not limited.
+fn limited_printer<A: Allocator>(mut printer: NamedPrinter<A>, most: Option<u64>) -> NamedPrinter<A>
+    ensures profile { result.profile ≡ limited most printer.profile }
+    ensures names { result.names ≡ printer.names }
+{
+    printer.profile.limit_items(most);
+    printer
 }
 
 /// Reads a job for the first page that is wanted. Where it does not have it, or cannot be read, the
@@ -207,6 +236,7 @@ fn end_without_page<S: Source, E: Outlet, A: Allocator + Copy>(
             return Some(PdfEnd {
                 status: Status::Stopped(error),
                 lacks_page: false,
+                gives_up: false,
             });
         }
     };
@@ -216,6 +246,7 @@ fn end_without_page<S: Source, E: Outlet, A: Allocator + Copy>(
         return Some(PdfEnd {
             status: Status::Fail,
             lacks_page: true,
+            gives_up: false,
         });
     }
     None
@@ -249,24 +280,44 @@ fn write_pages<S: Open, W: Create, O: Outlet, A: Allocator + Copy>(
     pages: &PrinterPages<'_, '_, A>,
     out: &mut W,
     stdout: &mut O,
-) -> Status
+) -> PagesEnd
     requires job { IsFalse (S.state job.old).failed }
     requires out { IsFalse (W.state out.old).failed }
     requires stdout { IsFalse (O.state stdout.old).failed }
     requires allowed { IsAllowed pages.now.profile.now pages.now.panel }
-    ensures ends { EndsBy result
-        (λ old new. LeavesOut result
+    ensures ends { EndsBy result.status
+        (λ old new. LeavesOut result.status
         (pdf_rendering pages.now.profile.now pages.now.panel (plan_of pages.now.wanted))
         old new (W.state out.old) (W.state out.new) (O.state stdout.old) (O.state stdout.new))
         (S.state job.old) (S.state job.new) (S.state job.new).failed
         ((W.state out.new).failed || (O.state stdout.new).failed) }
-    ensures created { CreatesOnceOpen result S.opens W.creates job.old out.old out.new }
-    ensures kept { IsTrue (is_overwriting result) → out.new ≡ out.old }
-    ensures end { IsEndOfPages result }
+    ensures created { CreatesOnceOpen result.status S.opens W.creates job.old out.old out.new }
+    ensures kept { IsTrue (is_overwriting result.status) → out.new ≡ out.old }
+    ensures end { IsEndOfPages result.status }
+    ensures limit { GivesUpBy result.status result.gives_up
+        (O.state stdout.old) (O.state stdout.new) }
 {
     if let Err(status) = open_and_create(job, profile_file, out) {
-        return status;
+        return PagesEnd {
+            status,
+            gives_up: false,
+        };
     }
     let work = pdf_of(alloc, job, pages.profile, &pages.panel, &pages.wanted, out);
-    end_by(alloc, work, stdout)
+    let status = end_by(alloc, work, stdout);
+    PagesEnd {
+        status,
+        gives_up: passes_limit(work),
+    }
+}
+
+/// Whether macros would carry out more items of a job than are allowed.
+fn passes_limit(work: Result<Outcome, Error>) -> bool
+    ensures { result ≡ passes_limit work }
+{
+    match work {
+        Ok(Outcome::Fail { finding, .. }) => finding.is_many_items(),
+        Ok(Outcome::Done) => false,
+        Err(_) => false,
+    }
 }

@@ -14,8 +14,9 @@ returns g c =
     let asked = c.args.asked.now in
     let left = c.pdf-ended.ensures in
     inl
-    (pdf_left asked.job.now c.args.out.now _ _ _ asked.setting.profile.now asked.setting.choices.now asked.selection asked.is_proof
+    (pdf_left asked.job.now c.args.out.now _ _ _ asked.setting.profile.now asked.most_items asked.setting.choices.now asked.selection
+    asked.is_proof
     _ _ _ _ _ _ _ c.pdf-ended.result _ _ _ _ _ _ _ c.end_document-status.new.out _ _ _ _ _ _ _
-    c.new-texts.ensures.given c.new-first.ensures.file c.new-source.ensures.file c.new-outlet.ensures.file left.ends left.choice
+    c.new-texts.ensures.given c.new-first.ensures.file c.new-source.ensures.file c.new-outlet.ensures.file left.ends left.choice left.limit
     c.end_document-status.ensures c.new-texts.ensures.named left.named c.end.ensures
     c.new-first.ensures.path c.new-source.ensures.path c.new-outlet.ensures.path c.read.ensures c.read-2.ensures c.written.ensures)

@@ -1,7 +1,7 @@
 use Rattle.std.proofs.Common.{◌&&◌, Bool, List, drop, map}
-use Rattle.many_jobs.specs.Asked.{asked_for}
 use Rattle.streams.specs.Outlet.{OutletState}
 use Rattle.streams.specs.Used.{FileUse}
+use Rattle.many_requests.specs.AskedDocuments.{documents_asked}
 use Rattle.many_requests.specs.Documents.{WritesDocuments}
 use Rattle.many_requests.proofs.documents.write_all.Given as goal
 
@@ -9,7 +9,7 @@ use Rattle.many_requests.proofs.documents.write_all.Given as goal
 abbrev pub invariant-loop-job : goal.invariant-loop-job
 invariant-loop-job g l =
     (others : Bool) (used' : List FileUse) (err' : OutletState) →
-    WritesDocuments l.folder (asked_for l.many) (map (λ job. job.now) (drop l.job-index l.jobs)) others l.used used'
+    WritesDocuments (documents_asked l.documents) (map (λ job. job.now) (drop l.job-index l.jobs)) others l.used used'
     (g.E.Outlet.state l.stderr) err' →
-    WritesDocuments l.folder (asked_for l.many) (map (λ job. job.now) l.jobs) (l.is_well && others) l.initial.used used'
+    WritesDocuments (documents_asked l.documents) (map (λ job. job.now) l.jobs) (l.is_well && others) l.initial.used used'
     (g.E.Outlet.state l.initial.stderr) err'

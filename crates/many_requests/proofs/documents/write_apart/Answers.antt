@@ -4,12 +4,13 @@ use Rattle.streams.specs.declared.error.Error.TheVariants.{Write}
 use Rattle.many_requests.specs.Documents.{WritesIfSound, lost_line}
 use Rattle.many_requests.proofs.documents.write_apart.Goals as goal
 
-pub returns-then-is_read : goal.returns-then-is_read
-returns-then-is_read g c =
+pub returns-in-Some : goal.returns-in-Some
+returns-in-Some g c =
     let err = g.E.Outlet.state c.args.stderr.now in
     let err' = g.E.Outlet.state c.tell_lost.new.stderr in
     inr (record {
       error = Write;
+      cause = (_, c.in-Some.ensures);
       well_is = refl;
       unused = refl;
       told =
@@ -17,5 +18,5 @@ returns-then-is_read g c =
           c.tell_lost.ensures;
     })
 
-pub returns : goal.returns
-returns g c = inl c.write_pdf.ensures
+pub returns-in-None : goal.returns-in-None
+returns-in-None g c = inl c.write_pdf.ensures

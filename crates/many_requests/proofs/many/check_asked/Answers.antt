@@ -76,13 +76,15 @@ returns g c =
         telling = c.telling_of.ensures;
       },
       subst
-          (λ err. LeavesFound words.allows_empty (option_map (λ word. word.now) words.names_from) c.in-Ok-read_names.names.items asked
+          (λ err. LeavesFound words.allows_empty (option_map (λ word. word.now) words.names_from)
+          (map (λ word. word.now) words.fleets.items) c.in-Ok-read_names.names.items asked
           c.check_found.result c.read_names.new.used c.check_found.new.used
           (g.O.Outlet.state c.args.stdout.now) (g.O.Outlet.state c.check_found.new.stdout) (g.E.Outlet.state err)
           (g.E.Outlet.state c.check_found.new.stderr))
           (c.in-Ok-read_names.ensures.quiet ∙ c.in-Ok.ensures.quiet)
           (subst
-          (λ names. LeavesFound words.allows_empty (option_map (λ word. word.now) words.names_from) names asked c.check_found.result
+          (λ names. LeavesFound words.allows_empty (option_map (λ word. word.now) words.names_from)
+          (map (λ word. word.now) words.fleets.items) names asked c.check_found.result
           c.read_names.new.used c.check_found.new.used (g.O.Outlet.state c.args.stdout.now) (g.O.Outlet.state c.check_found.new.stdout)
           (g.E.Outlet.state c.read_names.new.stderr) (g.E.Outlet.state c.check_found.new.stderr))
           c.as_slice-10.ensures.value c.check_found.ensures),

@@ -1,5 +1,6 @@
 use Rattle.std.proofs.Common.{◌≡◌, ◌||◌, ◌∙◌, ℕ, List, false, inl, inr, refl, ap, sym, subst, true≢false}
 use Rattle.std.proofs.Math.Bool.{or-false}
+use Rattle.device_profile.specs.Printer.{IsAllowed, Printer}
 use Rattle.job_pdf.specs.JobPdf.{pdf_rendering}
 use Rattle.job_reports.specs.Groups.{Groups}
 use Rattle.named_inputs.proofs.FleetFacts.{no_write_before}
@@ -13,9 +14,9 @@ use Rattle.subcommands.proofs.JudgedFirst.{judged_first}
 use Rattle.subcommands.proofs.Leaves.{Stays-none}
 use Rattle.subcommands.specs.JobTexts.{LeavesOut}
 use Rattle.pdf_command.proofs.Leaving.{before_answers, before_left, before_refuses, before_writes, left_by, no_panel, no_printer}
-use Rattle.pdf_command.proofs.Leaving.{pages_left, pages_refuse}
+use Rattle.pdf_command.proofs.Leaving.{before_gives_up, limited_allowed, pages_left, pages_refuse, panel_gives_up, profile_gives_up}
 use Rattle.pdf_command.specs.declared.command.PdfEnd.{PdfEnd}
-use Rattle.pdf_command.specs.Pdf.{Around, EndsBefore, HasPage, first_wanted, plan_of, search_of}
+use Rattle.pdf_command.specs.Pdf.{Around, EndsBefore, HasPage, first_wanted, limited, plan_of, search_of}
 use Rattle.pdf_command.proofs.command.pdf.Goals as goal
 
 -- ---- the profile is not had
@@ -26,7 +27,7 @@ returns-in-Err-clause-ends g c =
     let texts = g.T.ProfileTexts.failed c.read_printer.new.texts in
     record {
       left =
-          no_printer _ _ _ _ _ _ 1 _ c.in-Err.status _ ((refl, ((refl, Stays-none _), Stays-none _)), Stays-none _)
+          no_printer _ _ _ _ _ _ _ 1 _ c.in-Err.status _ ((refl, ((refl, Stays-none _), Stays-none _)), Stays-none _)
           c.in-Err.ensures.printer;
       read =
           ap (λ failed. (failed || second) || texts) c.requires.first
@@ -39,6 +40,9 @@ returns-in-Err-clause-ends g c =
       turns = λ is. absurd (subst (IsEndOfProfile 1 _) is c.in-Err.ensures.printer);
     }
 
+pub returns-in-Err-clause-limit : goal.returns-in-Err-clause-limit
+returns-in-Err-clause-limit g c = λ there. profile_gives_up 1 _ c.in-Err.status _ _ c.in-Err.ensures.printer
+
 -- ---- a choice is refused
 
 pub returns-in-Err-chosen_panel-clause-ends : goal.returns-in-Err-chosen_panel-clause-ends
@@ -48,7 +52,7 @@ returns-in-Err-chosen_panel-clause-ends g c =
     let quietly = choice_ends c.refuse_choice-status.result _ _ _ _ c.refuse_choice-status.ensures.choice in
     record {
       left =
-          no_panel _ _ _ _ _ _ c.refuse_choice-status.result _ c.in-Ok.printer.profile c.in-Err-chosen_panel.choice
+          no_panel _ _ _ _ _ _ _ c.refuse_choice-status.result _ c.in-Ok.printer.profile c.in-Err-chosen_panel.choice
           (refl, ((refl, Stays-none _), Stays-none _))
           (λ quiet. subst (λ err. Stays (g.E.Outlet.state c.args.stderr.now) (g.E.Outlet.state err))
           (sym (c.refuse_choice-status.ensures.quiet quiet)) (Stays-none _))
@@ -75,6 +79,24 @@ returns-in-Err-chosen_panel-clause-choice g c =
 
 pub returns-in-Err-chosen_panel-clause-quiet : goal.returns-in-Err-chosen_panel-clause-quiet
 returns-in-Err-chosen_panel-clause-quiet g c = λ choice there. c.refuse_choice-status.ensures.quiet choice
+
+pub returns-in-Err-chosen_panel-clause-limit : goal.returns-in-Err-chosen_panel-clause-limit
+returns-in-Err-chosen_panel-clause-limit g c = λ there.
+    panel_gives_up c.refuse_choice-status.result _ _ _ _ _ _ c.refuse_choice-status.ensures.choice
+
+-- ---- the printer with its limit
+
+pub end_without_page-requires-clause-allowed : goal.end_without_page-requires-clause-allowed
+end_without_page-requires-clause-allowed g c =
+    let panel = c.in-Ok-chosen_panel.panel in
+    subst (λ (printer : Printer). IsAllowed printer panel) (sym c.limited_printer-limited.ensures.profile)
+    (limited_allowed c.args.asked.now.most_items c.in-Ok.printer.profile panel c.in-Ok-chosen_panel.ensures.allowed)
+
+pub write_pages-written-requires-clause-allowed : goal.write_pages-written-requires-clause-allowed
+write_pages-written-requires-clause-allowed g c =
+    let panel = c.in-Ok-chosen_panel.panel in
+    subst (λ (printer : Printer). IsAllowed printer panel) (sym c.limited_printer-limited.ensures.profile)
+    (limited_allowed c.args.asked.now.most_items c.in-Ok.printer.profile panel c.in-Ok-chosen_panel.ensures.allowed)
 
 -- ---- it ends before the document
 
@@ -109,14 +131,20 @@ returns-in-Some-clause-ends g c =
     } in
     let ends =
     subst
+    (λ (drawn : Printer).
+    EndsBefore end.lacks_page end.status (search_of drawn panel plan) (first_wanted asked.selection) before after err err')
+    c.limited_printer-limited.ensures.profile
+    (subst
     (λ (name : List ℕ).
-    EndsBefore end.lacks_page end.status (search_of printer panel (plan_of asked.selection asked.is_proof name group))
+    EndsBefore end.lacks_page end.status
+    (search_of c.limited_printer-limited.result.profile panel (plan_of asked.selection asked.is_proof name group))
     (first_wanted asked.selection) before after err err')
-    c.as_bytes.ensures.value c.in-Some.ensures.found in
-    let search = search_of printer panel plan in
+    c.as_bytes.ensures.value c.in-Some.ensures.found) in
+    let drawn = limited asked.most_items printer in
+    let search = search_of drawn panel plan in
     let wanted = first_wanted asked.selection in
     record {
-      left = left_by by asked.setting.choices.now asked.selection asked.is_proof asked.job.now around end.status end
+      left = left_by by asked.most_items asked.setting.choices.now asked.selection asked.is_proof asked.job.now around end.status end
           (before_refuses search wanted before after err err' end.lacks_page end.status ends)
           (record {
             printer = printer;
@@ -126,11 +154,12 @@ returns-in-Some-clause-ends g c =
             panel_is = sym c.in-Ok-chosen_panel.ensures.value;
             group = group;
             names_are =
-                names_of _ _ _ _ group (ap (λ (group : Groups). group.names) c.new-printers.ensures) c.as_slice.ensures.value
+                names_of _ _ _ _ group (ap (λ (group : Groups). group.names) c.new-printers.ensures)
+                (c.as_slice.ensures.value ∙ ap (λ names. names.items) c.limited_printer-limited.ensures.names)
                 c.in-Ok.ensures.printer.1;
             is_whole = ap (λ (group : Groups). group.is_each) c.new-printers.ensures;
             draws =
-                before_left printer panel plan around end.lacks_page end.status ends
+                before_left drawn panel plan around end.lacks_page end.status ends
                 ((refl, Stays-none _), Stays-none _);
           });
       read =
@@ -175,6 +204,10 @@ returns-in-Some-clause-choice g c =
 pub returns-in-Some-clause-quiet : goal.returns-in-Some-clause-quiet
 returns-in-Some-clause-quiet g c = λ choice there. c.in-Some.ensures.quiet there
 
+pub returns-in-Some-clause-limit : goal.returns-in-Some-clause-limit
+returns-in-Some-clause-limit g c = λ there.
+    before_gives_up _ _ _ _ _ _ _ _ c.in-Some.end.lacks_page c.in-Some.end.status c.in-Some.end.gives_up c.in-Some.ensures.found there
+
 -- ---- the document
 
 pub returns-clause-ends : goal.returns-clause-ends
@@ -187,21 +220,21 @@ returns-clause-ends g c =
     let printer = c.in-Ok.printer.profile in
     let panel = c.in-Ok-chosen_panel.panel in
     let group = c.new-printers.result in
-    let status = c.write_pages-status.result in
+    let status = c.write_pages-written.result.status in
     let before = g.F.Source.state c.args.first.now in
     let after = g.F.Source.state c.end_without_page.new.job in
     let job = g.S.Source.state c.args.job.now in
-    let job' = g.S.Source.state c.write_pages-status.new.job in
+    let job' = g.S.Source.state c.write_pages-written.new.job in
     let out = g.W.Outlet.state c.args.out.now in
-    let out' = g.W.Outlet.state c.write_pages-status.new.out in
+    let out' = g.W.Outlet.state c.write_pages-written.new.out in
     let line = g.O.Outlet.state c.args.stdout.now in
-    let line' = g.O.Outlet.state c.write_pages-status.new.stdout in
+    let line' = g.O.Outlet.state c.write_pages-written.new.stdout in
     let err = g.E.Outlet.state c.args.stderr.now in
     let err' = g.E.Outlet.state c.end_without_page.new.stderr in
     let texts = g.T.ProfileTexts.failed c.read_printer.new.texts in
     let plan = λ (name : List ℕ). plan_of asked.selection asked.is_proof name group in
-    let ends = c.write_pages-status.ensures.ends in
-    let over : PdfEnd = record { status = status; lacks_page = false } in
+    let ends = c.write_pages-written.ensures.ends in
+    let over : PdfEnd = record { status = status; lacks_page = false; gives_up = c.write_pages-written.result.gives_up } in
     let around : Around = record {
       first = before;
       first' = after;
@@ -214,18 +247,24 @@ returns-clause-ends g c =
       err = err;
       err' = err';
     } in
+    let drawn = limited asked.most_items printer in
+    let of_drawn = c.limited_printer-limited.result.profile in
     let page =
-    subst (λ (name : List ℕ). HasPage (search_of printer panel (plan name)) (first_wanted asked.selection) before after)
-    c.as_bytes.ensures.value c.in_default.ensures.found in
-    let drawn =
-    subst (λ (name : List ℕ). LeavesOut status (pdf_rendering printer panel (plan name)) job job' out out' line line')
-    c.as_bytes.ensures.value ends.left in
+    subst (λ (drawn : Printer). HasPage (search_of drawn panel (plan asked.job.now)) (first_wanted asked.selection) before after)
+    c.limited_printer-limited.ensures.profile
+    (subst (λ (name : List ℕ). HasPage (search_of of_drawn panel (plan name)) (first_wanted asked.selection) before after)
+    c.as_bytes.ensures.value c.in_default.ensures.found) in
+    let pages =
+    subst (λ (drawn : Printer). LeavesOut status (pdf_rendering drawn panel (plan asked.job.now)) job job' out out' line line')
+    c.limited_printer-limited.ensures.profile
+    (subst (λ (name : List ℕ). LeavesOut status (pdf_rendering of_drawn panel (plan name)) job job' out out' line line')
+    c.as_bytes.ensures.value ends.left) in
     let quietly =
     subst (λ outlet. Stays (g.E.Outlet.state c.args.stderr.now) (g.E.Outlet.state outlet)) (sym (c.in_default.ensures.quiet refl))
     (Stays-none _) in
     record {
-      left = left_by by asked.setting.choices.now asked.selection asked.is_proof asked.job.now around status over
-          (pages_refuse status c.write_pages-status.ensures.end)
+      left = left_by by asked.most_items asked.setting.choices.now asked.selection asked.is_proof asked.job.now around status over
+          (pages_refuse status c.write_pages-written.ensures.end)
           (record {
             printer = printer;
             printer_name = c.in-Ok.ensures.printer.0;
@@ -234,10 +273,11 @@ returns-clause-ends g c =
             panel_is = sym c.in-Ok-chosen_panel.ensures.value;
             group = group;
             names_are =
-                names_of _ _ _ _ group (ap (λ (group : Groups). group.names) c.new-printers.ensures) c.as_slice.ensures.value
+                names_of _ _ _ _ group (ap (λ (group : Groups). group.names) c.new-printers.ensures)
+                (c.as_slice.ensures.value ∙ ap (λ names. names.items) c.limited_printer-limited.ensures.names)
                 c.in-Ok.ensures.printer.1;
             is_whole = ap (λ (group : Groups). group.is_each) c.new-printers.ensures;
-            draws = pages_left printer panel (plan asked.job.now) around status (page, drawn, quietly);
+            draws = pages_left drawn panel (plan asked.job.now) around status (page, pages, quietly);
           });
       read =
           ap (λ failed. (failed || job'.failed) || texts) c.in_default.ensures.read
@@ -250,25 +290,29 @@ returns-clause-ends g c =
 
 pub returns-clause-first : goal.returns-clause-first
 returns-clause-first g c =
-    judged_first c.write_pages-status.result _ _ _ _ _ _
-    (pages_refuse c.write_pages-status.result c.write_pages-status.ensures.end)
+    judged_first c.write_pages-written.result.status _ _ _ _ _ _
+    (pages_refuse c.write_pages-written.result.status c.write_pages-written.ensures.end)
     (c.read_printer.ensures.read ∙ ap is_err_at_read c.in-Ok.is)
 
 pub returns-clause-search : goal.returns-clause-search
 returns-clause-search g c =
-    judged_first c.write_pages-status.result _ _ _ _ _ _
-    (pages_refuse c.write_pages-status.result c.write_pages-status.ensures.end)
+    judged_first c.write_pages-written.result.status _ _ _ _ _ _
+    (pages_refuse c.write_pages-written.result.status c.write_pages-written.ensures.end)
     (c.read_printer.ensures.read ∙ ap is_err_at_read c.in-Ok.is)
 
 pub returns-clause-created : goal.returns-clause-created
-returns-clause-created g c = (c.write_pages-status.ensures.created.0, λ is. c.write_pages-status.ensures.created.1 is)
+returns-clause-created g c = (c.write_pages-written.ensures.created.0, λ is. c.write_pages-written.ensures.created.1 is)
 
 pub returns-clause-kept : goal.returns-clause-kept
-returns-clause-kept g c = λ is. c.write_pages-status.ensures.kept (sym (or-false _) ∙ is)
+returns-clause-kept g c = λ is. c.write_pages-written.ensures.kept (sym (or-false _) ∙ is)
 
 pub returns-clause-choice : goal.returns-clause-choice
 returns-clause-choice g c =
-    no_choice c.write_pages-status.result _ _ _ _ (pages_refuse c.write_pages-status.result c.write_pages-status.ensures.end)
+    no_choice c.write_pages-written.result.status _ _ _ _
+    (pages_refuse c.write_pages-written.result.status c.write_pages-written.ensures.end)
 
 pub returns-clause-quiet : goal.returns-clause-quiet
 returns-clause-quiet g c = λ choice there. c.in_default.ensures.quiet refl
+
+pub returns-clause-limit : goal.returns-clause-limit
+returns-clause-limit g c = λ there. c.write_pages-written.ensures.limit

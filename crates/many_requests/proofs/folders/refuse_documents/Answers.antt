@@ -1,0 +1,23 @@
+use Rattle.std.proofs.Common.{◌∙◌, inl, inr, subst}
+use Rattle.many_requests.proofs.Found.{none_weaker, some_weaker}
+use Rattle.many_requests.specs.Folders.{RefusesFolder}
+use Rattle.many_requests.proofs.folders.refuse_documents.Goals as goal
+
+pub returns-in-Some-clause-refused : goal.returns-in-Some-clause-refused
+returns-in-Some-clause-refused g c = inl c.in-Some.ensures.refused
+
+pub returns-in-None-clause-apart : goal.returns-in-None-clause-apart
+returns-in-None-clause-apart g c =
+    none_weaker c.refuse_folder.result (λ same. c.in-None.ensures.apart) c.refuse_folder.ensures.quiet
+
+pub returns-in-None-clause-quiet : goal.returns-in-None-clause-quiet
+returns-in-None-clause-quiet g c =
+    none_weaker c.refuse_folder.result (λ same. same ∙ c.in-None.ensures.quiet) c.refuse_folder.ensures.quiet
+
+pub returns-in-None-clause-refused : goal.returns-in-None-clause-refused
+returns-in-None-clause-refused g c =
+    let err' = g.E.Outlet.state c.refuse_folder.new.stderr in
+    some_weaker c.refuse_folder.result
+    (λ status told. inr
+    (subst (λ stderr. RefusesFolder c.args.folder.now status (g.E.Outlet.state stderr) err') c.in-None.ensures.quiet told))
+    c.refuse_folder.ensures.refused
