@@ -22,7 +22,8 @@ use Rattle.comparison.specs.declared.stepping.Stepped.{Stepped}
 use Rattle.comparison.specs.declared.stepping.Stepped.TheVariants.{On, More, AtEnd, FailsBy, Refused}
 use Rattle.comparison.specs.Comparison.{Made, made_at}
 use Rattle.comparison.specs.Running.{ComesBy, Gave, GoesBy, HasEnded, HasRun, IsUnderWay, IsWaiting, LeavesOff, MayMake, RunState}
-use Rattle.comparison.specs.Running.{RunsOn, StandsBy, TakesEnd, TakesPiece, TakesRead, TakesWork, is_open, last_made, last_step, place_after, progress_after, work}
+use Rattle.comparison.specs.Running.{RunsOn, StandsBy, TakesEnd, TakesPiece, TakesRead, TakesWork}
+use Rattle.comparison.specs.Running.{is_open, last_made, last_step, place_after, progress_after, work}
 use Rattle.comparison.proofs.Given.{gave_end, gave_more, gave_none}
 use Rattle.comparison.proofs.Steps.{still_under_way, under_way_at_start}
 
@@ -125,7 +126,8 @@ module _ (old : RunState) (lexer : LexerState) (machine : MachineState) (events 
     total_is = h.total_is;
     stands =
         subst (λ m. IsUnderWay printer panel old.number h.bytes m lexer machine)
-        (sym (ap (λ es. made ++ made_at old.place es) leaves.4 ∙ append-nil made)) (came printer panel h.bytes made h.total_is now_under_way);
+        (sym (ap (λ es. made ++ made_at old.place es) leaves.4 ∙ append-nil made)) (came printer panel h.bytes made h.total_is
+        now_under_way);
   }
   went_on kept AtEnd known came leaves = record {
     bytes = h.bytes;

@@ -19,7 +19,8 @@ invariant_of-self g c = λ running.
     let ready = c.self.invariant (ap (λ (s : RunState). is_open s.progress) c.self.view_is ∙ c.requires) in
     let stands =
     runs_after c.step-stepped.result l.lexer c.step-stepped.new.lexer c.step-stepped.new.machine c.step-stepped.new.sink.events
-    (sym (ap is_open c.progress_after-self-inside.ensures) ∙ running) (leaves_recorded l.number l.total l.lexer l.machine c.step-stepped.result c.step-stepped.new.lexer c.step-stepped.new.machine
+    (sym (ap is_open c.progress_after-self-inside.ensures) ∙ running) (leaves_recorded l.number l.total l.lexer l.machine
+    c.step-stepped.result c.step-stepped.new.lexer c.step-stepped.new.machine
     c.clear.new.self c.step-stepped.new.sink (ap (λ (r : Recorded). r.events) c.clear.ensures) c.step-stepped.ensures.came) in
     (stands.0, stands.1, c.step-stepped.ensures.place ∙ ready.2, ready.3, ready.4)
 
@@ -40,7 +41,8 @@ returns-clause-came g c = λ printer panel first now made h.
     (ap (λ (s : RunState). is_open s.progress) c.self.view_is ∙ c.requires) c.step-stepped.ensures.ended printer panel first now made
     (subst (λ (s : RunState). HasRun printer panel first now made s) (sym c.self.view_is) h) c.step-stepped.result
     c.place_after-self-inside.result c.progress_after-self-inside.result c.place_after-self-inside.ensures
-    c.progress_after-self-inside.ensures (came_recorded l.number l.total l.lexer l.machine c.step-stepped.result c.step-stepped.new.lexer c.step-stepped.new.machine
+    c.progress_after-self-inside.ensures (came_recorded l.number l.total l.lexer l.machine c.step-stepped.result c.step-stepped.new.lexer
+    c.step-stepped.new.machine
     c.clear.new.self c.step-stepped.new.sink (ap (λ (r : Recorded). r.events) c.clear.ensures) c.step-stepped.ensures.came)
     (leaves_recorded l.number l.total l.lexer l.machine c.step-stepped.result c.step-stepped.new.lexer c.step-stepped.new.machine
     c.clear.new.self c.step-stepped.new.sink (ap (λ (r : Recorded). r.events) c.clear.ensures) c.step-stepped.ensures.came)
@@ -59,7 +61,8 @@ returns-clause-waits g c = λ more.
       progress = l.progress;
     } in
     waits_now fields c.step-stepped.new.lexer c.step-stepped.new.machine c.step-stepped.new.sink.events c.place_after-self-inside.result
-    c.progress_after-self-inside.result c.step-stepped.result c.progress_after-self-inside.ensures (leaves_recorded l.number l.total l.lexer l.machine c.step-stepped.result c.step-stepped.new.lexer c.step-stepped.new.machine
+    c.progress_after-self-inside.result c.step-stepped.result c.progress_after-self-inside.ensures (leaves_recorded l.number l.total
+    l.lexer l.machine c.step-stepped.result c.step-stepped.new.lexer c.step-stepped.new.machine
     c.clear.new.self c.step-stepped.new.sink (ap (λ (r : Recorded). r.events) c.clear.ensures) c.step-stepped.ensures.came) more
 
 pub returns-clause-less : goal.returns-clause-less
@@ -82,7 +85,8 @@ returns-clause-less g c =
     (work_taken fields c.step-stepped.new.lexer c.step-stepped.new.machine c.step-stepped.new.sink.events
     c.step-stepped.new.sink.events c.place_after-self-inside.result c.progress_after-self-inside.result
     (ap (λ (s : RunState). is_open s.progress) c.self.view_is ∙ c.requires) c.step-stepped.result
-    c.progress_after-self-inside.ensures (leaves_recorded l.number l.total l.lexer l.machine c.step-stepped.result c.step-stepped.new.lexer c.step-stepped.new.machine
+    c.progress_after-self-inside.ensures (leaves_recorded l.number l.total l.lexer l.machine c.step-stepped.result
+    c.step-stepped.new.lexer c.step-stepped.new.machine
     c.clear.new.self c.step-stepped.new.sink (ap (λ (r : Recorded). r.events) c.clear.ensures) c.step-stepped.ensures.came))
 
 pub returns-clause-number : goal.returns-clause-number
