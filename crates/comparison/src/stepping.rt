@@ -1,15 +1,16 @@
 //! One step of a job that is carried out: its next item, or its end.
 
-ghost use Rattle.std.specs.Prelude.{◌≡◌, ◌+◌, Some, false, length};
+ghost use Rattle.std.specs.Prelude.{◌≡◌, ◌+◌, IfNone, IfSome, Some, false, length};
 ghost use Rattle.pcl_items.specs.declared.item.Mode.{Mode};
 ghost use Rattle.pcl_items.specs.Items.{at, view};
 ghost use Rattle.pcl_items.specs.Modes.{follows};
+ghost use Rattle.pcl_lexer.specs.Lexing.Meaning.{IsNext, answer_of};
 ghost use Rattle.pcl_lexer.specs.Modes.{mode_of};
 ghost use Rattle.comparison.specs.Running.{CarriesTo, EndsBy, StepsBy};
 
 use page_machine::{Machine, MarkSink, Stop};
 use pcl_items::{Item, Place};
-use pcl_lexer::{Lexed, Lexer};
+use pcl_lexer::{Lexed, Lexer, PlacedItem};
 use std::alloc::Allocator;
 use verdict::Failure;
 
@@ -47,8 +48,8 @@ where
     ensures place { lexer.new.place + length lexer.new.rest ≡
         lexer.old.place + length lexer.old.rest }
 {
-    // Most items are commands, and what carries one out knows that it is.
-    if let Some(read) = lexer.next_command() {
+    // What carries these out knows their kind.
+    if let Some(read) = next_known(lexer) {
         return carry_out(machine, sink, number, read.place, &Item::Simple(read.item));
     }
     match lexer.next() {
@@ -56,6 +57,19 @@ where
         Ok(Lexed::NeedMore) => Stepped::More,
         Ok(Lexed::End) => carry_out_end(machine, sink, number, total),
         Err(fault) => Stepped::FailsBy(Failure::of_fault(fault)),
+    }
+}
+
+/// The command, or the pair of coordinates, that stands next, where it is known that one does.
+#[inline(always)]
+fn next_known<A: Allocator>(lexer: &mut Lexer<A>) -> Option<PlacedItem>
+    ensures some { IfSome result (λ read. IsNext lexer.old (answer_of read) lexer.new) }
+    ensures none { IfNone result (lexer.new ≡ lexer.old) }
+{
+    // Most items are commands.
+    match lexer.next_command() {
+        Some(read) => Some(read),
+        None => lexer.next_pair(),
     }
 }
 

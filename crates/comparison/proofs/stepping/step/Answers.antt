@@ -12,9 +12,9 @@ use Rattle.comparison.proofs.stepping.step.Goals as goal
 
 pub carry_out-requires-clause-admitted : goal.carry_out-requires-clause-admitted
 carry_out-requires-clause-admitted g c = (
-  mode_of c.next_command.new.self.context,
+  mode_of c.next_known.new.lexer.context,
   ap (λ mode. follows mode (view (Simple c.in-Some.read.item))) c.requires.mode
-      ∙ item_admitted c.args.lexer.now c.next_command.new.self (answer_of c.in-Some.read) c.in-Some.ensures.command c.in-Some.read.place
+      ∙ item_admitted c.args.lexer.now c.next_known.new.lexer (answer_of c.in-Some.read) c.in-Some.ensures.some c.in-Some.read.place
       (Simple c.in-Some.read.item) refl,
 )
 
@@ -37,19 +37,19 @@ returns-in-Some-clause-came g c =
       taken = carried.taken;
       came = λ printer panel bytes made total under.
           item_steps printer panel c.args.number bytes made c.args.lexer.now c.args.machine.now under (answer_of c.in-Some.read)
-          c.next_command.new.self c.in-Some.ensures.command c.in-Some.read.place (Simple c.in-Some.read.item) refl
+          c.next_known.new.lexer c.in-Some.ensures.some c.in-Some.read.place (Simple c.in-Some.read.item) refl
           c.carry_out.new.machine carried.events c.carry_out.result carried.carried;
       leaves =
-          item_leaves c.args.lexer.now c.next_command.new.self (answer_of c.in-Some.read) c.in-Some.ensures.command c.args.machine.now
+          item_leaves c.args.lexer.now c.next_known.new.lexer (answer_of c.in-Some.read) c.in-Some.ensures.some c.args.machine.now
           c.in-Some.read.place (Simple c.in-Some.read.item) refl c.requires.mode c.args.number c.carry_out.new.machine carried.events
           c.carry_out.result carried.carried;
     }
 
 pub returns-in-Some-clause-ended : goal.returns-in-Some-clause-ended
-returns-in-Some-clause-ended g c = c.in-Some.ensures.command.ended
+returns-in-Some-clause-ended g c = c.in-Some.ensures.some.ended
 
 pub returns-in-Some-clause-place : goal.returns-in-Some-clause-place
-returns-in-Some-clause-place g c = c.in-Some.ensures.command.total
+returns-in-Some-clause-place g c = c.in-Some.ensures.some.total
 
 -- ---- another item
 
