@@ -1,0 +1,3 @@
+mod Appending
+mod Loops
+mod PartsInTurn

@@ -1,6 +1,7 @@
 pub mod Label
 pub mod Figures
 pub mod Words
+pub mod Parts
 pub mod Panel
 pub mod Pages
 pub mod Faces

@@ -6,6 +6,7 @@ mod figures;
 mod label;
 mod pages;
 mod panel;
+mod parts;
 mod shown;
 mod words;
 

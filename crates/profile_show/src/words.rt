@@ -3,8 +3,6 @@ ghost use Rattle.std.specs.Prelude.{◌≡◌, ◌++◌, OnOk};
 ghost use Rattle.profile_show.specs.Words.{
   behind_space,
   cut_words,
-  design_words,
-  letter_size,
   lines_an_inch,
   numbered,
   orientation_name,
@@ -22,7 +20,8 @@ ghost use Rattle.profile_show.specs.Words.{
   weight_words,
 };
 
-use crate::figures::{push_counted, push_signed_amount};
+use crate::figures::push_signed_amount;
+use crate::parts::{Part, push_parts};
 use device_profile::{FontRequest, NamedSet, SymbolSet};
 use printer_models::{PAPERS, Paper, TYPEFACES, Typeface};
 use shown_bytes::{push_amount, push_lettered, push_number};
@@ -95,17 +94,21 @@ fn push_lines_an_inch<A: Allocator>(text: &mut Vec<u8, A>, vmi: u32) -> Result<(
     if vmi == 0 || INCH % vmi != 0 {
         return Ok(());
     }
-    text.extend_from_slice(b" (")?;
-    push_counted(text, u64::from(INCH / vmi), b"line")?;
-    text.extend_from_slice(b" an inch)")
+    push_parts(
+        text,
+        &[
+            Part::Words(b" ("),
+            Part::Counted(INCH / vmi, b"line"),
+            Part::Words(b" an inch)"),
+        ],
+    )
 }
 
 /// Appends a VMI, in 1/48 inch.
 pub(crate) fn push_vmi<A: Allocator>(text: &mut Vec<u8, A>, vmi: u32) -> Result<(), AllocError>
     ensures { OnOk result (text.new.items ≡ text.old.items ++ vmi_words vmi) }
 {
-    push_amount(text, u64::from(vmi))?;
-    text.extend_from_slice(b"/48 inch")?;
+    push_parts(text, &[Part::Amount(vmi), Part::Words(b"/48 inch")])?;
     push_lines_an_inch(text, vmi)
 }
 
@@ -180,7 +183,10 @@ fn typeface_of(number: u32) -> Option<Typeface>
 
 /// Appends a typeface by the name of its design, where it has one.
 #[tactic(auto, unfolding(crate::specs::Words::typeface_words))]
-fn push_typeface<A: Allocator>(text: &mut Vec<u8, A>, number: u32) -> Result<(), AllocError>
+pub(crate) fn push_typeface<A: Allocator>(
+    text: &mut Vec<u8, A>,
+    number: u32,
+) -> Result<(), AllocError>
     ensures { OnOk result (text.new.items ≡ text.old.items ++ typeface_words number) }
 {
     match typeface_of(number) {
@@ -193,7 +199,7 @@ fn push_typeface<A: Allocator>(text: &mut Vec<u8, A>, number: u32) -> Result<(),
 }
 
 #[tactic(auto, unfolding(crate::specs::Words::style_words))]
-fn push_style<A: Allocator>(text: &mut Vec<u8, A>, style: u32) -> Result<(), AllocError>
+pub(crate) fn push_style<A: Allocator>(text: &mut Vec<u8, A>, style: u32) -> Result<(), AllocError>
     ensures { OnOk result (text.new.items ≡ text.old.items ++ style_words style) }
 {
     match style {
@@ -207,7 +213,10 @@ fn push_style<A: Allocator>(text: &mut Vec<u8, A>, style: u32) -> Result<(), All
 }
 
 #[tactic(auto, unfolding(crate::specs::Words::weight_words))]
-fn push_weight<A: Allocator>(text: &mut Vec<u8, A>, weight: i32) -> Result<(), AllocError>
+pub(crate) fn push_weight<A: Allocator>(
+    text: &mut Vec<u8, A>,
+    weight: i32,
+) -> Result<(), AllocError>
     ensures { OnOk result (text.new.items ≡ text.old.items ++ weight_words weight) }
 {
     match weight {
@@ -228,33 +237,19 @@ pub(crate) fn push_cut<A: Allocator>(
 ) -> Result<(), AllocError>
     ensures { OnOk result (text.new.items ≡ text.old.items ++ cut_words request.now) }
 {
-    push_design(text, request)?;
-    text.extend_from_slice(b", ")?;
-    push_letter_size(text, request)
-}
-
-/// Appends the design of the letters.
-#[tactic(auto, unfolding(crate::specs::Words::design_words))]
-fn push_design<A: Allocator>(text: &mut Vec<u8, A>, request: &FontRequest) -> Result<(), AllocError>
-    ensures { OnOk result (text.new.items ≡ text.old.items ++ design_words request.now) }
-{
-    push_typeface(text, request.typeface)?;
-    text.extend_from_slice(b", ")?;
-    push_style(text, request.style)?;
-    text.extend_from_slice(b", ")?;
-    push_weight(text, request.weight)
-}
-
-/// Appends how large the letters are.
-#[tactic(auto, unfolding(crate::specs::Words::letter_size))]
-fn push_letter_size<A: Allocator>(
-    text: &mut Vec<u8, A>,
-    request: &FontRequest,
-) -> Result<(), AllocError>
-    ensures { OnOk result (text.new.items ≡ text.old.items ++ letter_size request.now) }
-{
-    push_amount(text, u64::from(request.pitch))?;
-    text.extend_from_slice(b" an inch, ")?;
-    push_amount(text, u64::from(request.height))?;
-    text.extend_from_slice(b" points")
+    push_parts(
+        text,
+        &[
+            Part::Typeface(request.typeface),
+            Part::Words(b", "),
+            Part::Style(request.style),
+            Part::Words(b", "),
+            Part::Weight(request.weight),
+            Part::Words(b", "),
+            Part::Amount(request.pitch),
+            Part::Words(b" an inch, "),
+            Part::Amount(request.height),
+            Part::Words(b" points"),
+        ],
+    )
 }

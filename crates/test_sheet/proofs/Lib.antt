@@ -1,1 +1,3 @@
+pub mod Appending
 pub mod Enumerated
+pub mod PartsInTurn

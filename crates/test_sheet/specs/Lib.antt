@@ -1,6 +1,7 @@
 pub mod Dots
 pub mod Figures
 pub mod Area
+pub mod Parts
 pub mod Commands
 pub mod Marks
 pub mod OwnPage

@@ -3,9 +3,8 @@ ghost use Rattle.std.specs.Prelude.{◌≡◌, ◌++◌, OnOk};
 ghost use Rattle.test_sheet.specs.Commands.{font_look, font_request, font_size, move_across};
 ghost use Rattle.test_sheet.specs.Commands.{move_to, page_request, rectangle, sheet_settings};
 
-use crate::figures::{push_amount, push_signed_amount};
+use crate::parts::{Part, push_parts};
 use device_profile::FontRequest;
-use shown_bytes::{push_lettered, push_number};
 use std::alloc::{AllocError, Allocator};
 
 /// Appends one copy, on one side, from this tray, and that CR, LF and FF stand for themselves.
@@ -16,9 +15,14 @@ pub(crate) fn push_sheet_settings<A: Allocator>(
 ) -> Result<(), AllocError>
     ensures { OnOk result (text.new.items ≡ text.old.items ++ sheet_settings tray) }
 {
-    text.extend_from_slice(b"\x1b&l1x0s")?;
-    push_number(text, u64::from(tray))?;
-    text.extend_from_slice(b"H\x1b&k0G")
+    push_parts(
+        text,
+        &[
+            Part::Words(b"\x1b&l1x0s"),
+            Part::Number(tray),
+            Part::Words(b"H\x1b&k0G"),
+        ],
+    )
 }
 
 /// Appends a size and an orientation, lines of 8/48 inch, and no top margin.
@@ -30,11 +34,16 @@ pub(crate) fn push_page_request<A: Allocator>(
 ) -> Result<(), AllocError>
     ensures { OnOk result (text.new.items ≡ text.old.items ++ page_request size orientation) }
 {
-    text.extend_from_slice(b"\x1b&l")?;
-    push_number(text, u64::from(size))?;
-    text.push(b'a')?;
-    push_number(text, u64::from(orientation))?;
-    text.extend_from_slice(b"o8c0E")
+    push_parts(
+        text,
+        &[
+            Part::Words(b"\x1b&l"),
+            Part::Number(size),
+            Part::Words(b"a"),
+            Part::Number(orientation),
+            Part::Words(b"o8c0E"),
+        ],
+    )
 }
 
 /// Appends the pitch and the height of a font of fixed spacing.
@@ -45,11 +54,16 @@ fn push_font_size<A: Allocator>(
 ) -> Result<(), AllocError>
     ensures { OnOk result (text.new.items ≡ text.old.items ++ font_size request.now) }
 {
-    text.extend_from_slice(b"\x1b(s0p")?;
-    push_amount(text, request.pitch)?;
-    text.extend_from_slice(b"h")?;
-    push_amount(text, request.height)?;
-    text.extend_from_slice(b"v")
+    push_parts(
+        text,
+        &[
+            Part::Words(b"\x1b(s0p"),
+            Part::Amount(request.pitch),
+            Part::Words(b"h"),
+            Part::Amount(request.height),
+            Part::Words(b"v"),
+        ],
+    )
 }
 
 /// Appends the style, the stroke weight and the typeface of a font.
@@ -60,12 +74,17 @@ fn push_font_look<A: Allocator>(
 ) -> Result<(), AllocError>
     ensures { OnOk result (text.new.items ≡ text.old.items ++ font_look request.now) }
 {
-    push_amount(text, request.style)?;
-    text.extend_from_slice(b"s")?;
-    push_signed_amount(text, request.weight)?;
-    text.extend_from_slice(b"b")?;
-    push_amount(text, request.typeface)?;
-    text.extend_from_slice(b"T")
+    push_parts(
+        text,
+        &[
+            Part::Amount(request.style),
+            Part::Words(b"s"),
+            Part::SignedAmount(request.weight),
+            Part::Words(b"b"),
+            Part::Amount(request.typeface),
+            Part::Words(b"T"),
+        ],
+    )
 }
 
 /// Appends the seven parts that select a font.
@@ -76,8 +95,10 @@ pub(crate) fn push_font_request<A: Allocator>(
 ) -> Result<(), AllocError>
     ensures { OnOk result (text.new.items ≡ text.old.items ++ font_request request.now) }
 {
-    text.extend_from_slice(b"\x1b(")?;
-    push_lettered(text, request.symbol_set.number, request.symbol_set.letter)?;
+    push_parts(
+        text,
+        &[Part::Words(b"\x1b("), Part::Set(request.symbol_set)],
+    )?;
     push_font_size(text, request)?;
     push_font_look(text, request)
 }
@@ -91,11 +112,16 @@ pub(crate) fn push_move_to<A: Allocator>(
 ) -> Result<(), AllocError>
     ensures { OnOk result (text.new.items ≡ text.old.items ++ move_to x y) }
 {
-    text.extend_from_slice(b"\x1b*p")?;
-    push_number(text, u64::from(x))?;
-    text.extend_from_slice(b"x")?;
-    push_number(text, u64::from(y))?;
-    text.extend_from_slice(b"Y")
+    push_parts(
+        text,
+        &[
+            Part::Words(b"\x1b*p"),
+            Part::Number(x),
+            Part::Words(b"x"),
+            Part::Number(y),
+            Part::Words(b"Y"),
+        ],
+    )
 }
 
 /// Appends a move to a column of dots.
@@ -106,9 +132,10 @@ pub(crate) fn push_move_across<A: Allocator>(
 ) -> Result<(), AllocError>
     ensures { OnOk result (text.new.items ≡ text.old.items ++ move_across x) }
 {
-    text.extend_from_slice(b"\x1b*p")?;
-    push_number(text, u64::from(x))?;
-    text.extend_from_slice(b"X")
+    push_parts(
+        text,
+        &[Part::Words(b"\x1b*p"), Part::Number(x), Part::Words(b"X")],
+    )
 }
 
 /// Appends a black rectangle of so many dots.
@@ -120,9 +147,14 @@ pub(crate) fn push_rectangle<A: Allocator>(
 ) -> Result<(), AllocError>
     ensures { OnOk result (text.new.items ≡ text.old.items ++ rectangle width height) }
 {
-    text.extend_from_slice(b"\x1b*c")?;
-    push_number(text, u64::from(width))?;
-    text.extend_from_slice(b"a")?;
-    push_number(text, u64::from(height))?;
-    text.extend_from_slice(b"b0P")
+    push_parts(
+        text,
+        &[
+            Part::Words(b"\x1b*c"),
+            Part::Number(width),
+            Part::Words(b"a"),
+            Part::Number(height),
+            Part::Words(b"b0P"),
+        ],
+    )
 }

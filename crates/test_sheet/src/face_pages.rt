@@ -2,18 +2,18 @@
 ghost use Rattle.std.specs.Prelude.{◌≡◌, ◌++◌, ◌≤◌, ◌<◌, OnOk, IfOk, flat_map};
 ghost use Rattle.test_sheet.specs.Lines.{indent};
 ghost use Rattle.test_sheet.specs.Marks.{words_at};
-ghost use Rattle.test_sheet.specs.FacePages.{amount_word, cut_words, ends_of, face_entries};
+ghost use Rattle.test_sheet.specs.FacePages.{cut_words, ends_of, face_entries};
 ghost use Rattle.test_sheet.specs.FacePages.{face_entry, face_line, face_pages, face_words};
 ghost use Rattle.test_sheet.specs.FacePages.{faces_on, heading, last_line, line_of, look_words};
 ghost use Rattle.test_sheet.specs.FacePages.{sample_words};
 
 use crate::area::{Area, area_of};
 use crate::commands::{push_font_request, push_page_request};
-use crate::figures::{push_amount, push_signed_amount};
 use crate::lines::{baseline, indent, line_height, push_words_on};
 use crate::marks::push_words_at;
+use crate::parts::{Part, push_parts};
 use device_profile::{CodeRange, FontRequest, FontRow, Geometry};
-use shown_bytes::{push_lettered, push_number};
+use shown_bytes::push_number;
 use std::alloc::{AllocError, Allocator};
 
 /// How many faces go on a page, below its heading and above the last line.
@@ -60,10 +60,17 @@ fn push_cut_words<A: Allocator>(
 ) -> Result<(), AllocError>
     ensures { OnOk result (words.new.items ≡ words.old.items ++ cut_words request.now) }
 {
-    words.push(b' ')?;
-    push_lettered(words, request.symbol_set.number, request.symbol_set.letter)?;
-    push_amount_word(words, request.pitch)?;
-    push_amount_word(words, request.height)
+    push_parts(
+        words,
+        &[
+            Part::Words(b" "),
+            Part::Set(request.symbol_set),
+            Part::Words(b" "),
+            Part::Amount(request.pitch),
+            Part::Words(b" "),
+            Part::Amount(request.height),
+        ],
+    )
 }
 
 /// Appends what else selects a font, each part behind a space.
@@ -74,18 +81,17 @@ fn push_look_words<A: Allocator>(
 ) -> Result<(), AllocError>
     ensures { OnOk result (words.new.items ≡ words.old.items ++ look_words request.now) }
 {
-    push_amount_word(words, request.style)?;
-    words.push(b' ')?;
-    push_signed_amount(words, request.weight)?;
-    push_amount_word(words, request.typeface)
-}
-
-/// Appends so many ten-thousandths behind a space.
-fn push_amount_word<A: Allocator>(words: &mut Vec<u8, A>, n: u32) -> Result<(), AllocError>
-    ensures { OnOk result (words.new.items ≡ words.old.items ++ amount_word n) }
-{
-    words.push(b' ')?;
-    push_amount(words, n)
+    push_parts(
+        words,
+        &[
+            Part::Words(b" "),
+            Part::Amount(request.style),
+            Part::Words(b" "),
+            Part::SignedAmount(request.weight),
+            Part::Words(b" "),
+            Part::Amount(request.typeface),
+        ],
+    )
 }
 
 /// Appends the ends of ranges of codes.

@@ -10,6 +10,7 @@ mod lines;
 mod marks;
 mod measured_page;
 mod own_page;
+mod parts;
 mod sheet;
 
 pub use sheet::sheet_job;

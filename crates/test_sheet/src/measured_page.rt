@@ -14,12 +14,13 @@ ghost use Rattle.test_sheet.specs.MeasuredPage.{tens_digit, top_distance};
 use crate::area::{Area, area_of};
 use crate::commands::{push_font_request, push_move_across, push_move_to, push_page_request};
 use crate::dots::{DOT, nearest_dots, ticks_of};
-use crate::figures::{push_amount, push_millimetres};
+use crate::figures::push_millimetres;
 use crate::lines::{baseline, indent, line_top, push_words_on};
 use crate::marks::{columns_from, fits_at, push_rule_at, push_words_at, push_words_from};
 use crate::own_page::{NUMBERS, numbered};
+use crate::parts::{Part, push_parts};
 use device_profile::{FontRow, Geometry};
-use shown_bytes::{digit, push_number};
+use shown_bytes::digit;
 use std::alloc::{AllocError, Allocator};
 
 /// Appends rules of two dots along the four edges of the area.
@@ -78,10 +79,16 @@ fn right_distance(page: &Geometry) -> u64
 fn size_words<A: Allocator>(alloc: A, page: &Geometry) -> Result<Vec<u8, A>, AllocError>
     ensures { IfOk result (λ words. words.items ≡ size_words page.now) }
 {
-    let mut words = Vec::from_slice(alloc, b"Size ")?;
-    push_number(&mut words, u64::from(page.size))?;
-    words.extend_from_slice(b", orientation ")?;
-    push_number(&mut words, u64::from(page.orientation))?;
+    let mut words = Vec::new(alloc);
+    push_parts(
+        &mut words,
+        &[
+            Part::Words(b"Size "),
+            Part::Number(page.size),
+            Part::Words(b", orientation "),
+            Part::Number(page.orientation),
+        ],
+    )?;
     Ok(words)
 }
 
@@ -90,11 +97,17 @@ fn size_words<A: Allocator>(alloc: A, page: &Geometry) -> Result<Vec<u8, A>, All
 fn paper_words<A: Allocator>(alloc: A, page: &Geometry) -> Result<Vec<u8, A>, AllocError>
     ensures { IfOk result (λ words. words.items ≡ paper_words page.now) }
 {
-    let mut words = Vec::from_slice(alloc, b"Paper ")?;
-    push_millimetres(&mut words, ticks_of(page.page_width))?;
-    words.extend_from_slice(b" by ")?;
-    push_millimetres(&mut words, ticks_of(page.page_height))?;
-    words.extend_from_slice(b" mm")?;
+    let mut words = Vec::new(alloc);
+    push_parts(
+        &mut words,
+        &[
+            Part::Words(b"Paper "),
+            Part::Millimetres(page.page_width),
+            Part::Words(b" by "),
+            Part::Millimetres(page.page_height),
+            Part::Words(b" mm"),
+        ],
+    )?;
     Ok(words)
 }
 
@@ -117,9 +130,14 @@ fn push_inside<A: Allocator>(words: &mut Vec<u8, A>, distance: u64) -> Result<()
     ensures { OnOk result (words.new.items ≡ words.old.items ++ inside_words distance) }
 {
     push_millimetres(words, distance)?;
-    words.extend_from_slice(b" mm, ")?;
-    push_number(words, nearest_dots(distance))?;
-    words.extend_from_slice(b" dots inside")
+    push_parts(
+        words,
+        &[
+            Part::Words(b" mm, "),
+            Part::LongNumber(nearest_dots(distance)),
+            Part::Words(b" dots inside"),
+        ],
+    )
 }
 
 /// Appends how far the four rules are from the paper's edges.
@@ -203,10 +221,15 @@ fn column_words<A: Allocator, P: Allocator>(
     ensures { IfOk result (λ words. words.items ≡ column_words face.now columns) }
 {
     let mut words = Vec::new(alloc);
-    push_number(&mut words, columns as u64)?;
-    words.extend_from_slice(b" columns, ")?;
-    push_amount(&mut words, face.request().pitch)?;
-    words.extend_from_slice(b" to the inch")?;
+    push_parts(
+        &mut words,
+        &[
+            Part::LongNumber(columns as u64),
+            Part::Words(b" columns, "),
+            Part::Amount(face.request().pitch),
+            Part::Words(b" to the inch"),
+        ],
+    )?;
     Ok(words)
 }
 

@@ -7,8 +7,8 @@ ghost use Rattle.test_sheet.specs.OwnPage.{numbered_line, own_line, own_lines, o
 use crate::area::{Area, area_of};
 use crate::dots::{DOT, ticks_of};
 use crate::marks::{advance_of, columns_from, push_first};
+use crate::parts::{Part, push_parts};
 use device_profile::{FontRow, Geometry, Panel};
-use shown_bytes::push_number;
 use std::alloc::{AllocError, Allocator};
 use tick_length::TICKS_PER_HALF_INCH;
 
@@ -112,8 +112,9 @@ fn push_own_line<A: Allocator, P: Allocator>(
 pub(crate) fn numbered<A: Allocator>(alloc: A, number: u8) -> Result<Vec<u8, A>, AllocError>
     ensures { IfOk result (λ words. words.items ≡ numbered number) }
 {
-    let mut words = Vec::from_slice(alloc, b"Line ")?;
-    push_number(&mut words, u64::from(number))?;
+    let mut words = Vec::new(alloc);
+    let number = u32::from(number);
+    push_parts(&mut words, &[Part::Words(b"Line "), Part::Number(number)])?;
     Ok(words)
 }
 
