@@ -1,12 +1,15 @@
 //! Compares two jobs, which are read side by side.
 
-ghost use Rattle.std.specs.Prelude.{◌≡◌, ◌<◌, [], IfErr, IfOk, IsFalse, OnOk, false, map, true};
+ghost use Rattle.std.specs.Prelude.{◌≡◌, ◌<◌, [], IfErr, IfOk, IfSome, IsFalse, OnOk, Some, false};
+ghost use Rattle.std.specs.Prelude.{map, true};
 ghost use Rattle.device_profile.specs.Printer.{first_panel};
 ghost use Rattle.comparison.specs.Comparison.{IsComparison, made_at};
 ghost use Rattle.comparison.specs.Comparing.{EndsCompare, EndsRight, EventCompares, EventsCompare};
 ghost use Rattle.comparison.specs.Comparing.{FollowsOn, ItemCompares, NewEndsRight, StepCompares};
 ghost use Rattle.comparison.specs.Comparing.{is_unread, still_made};
-ghost use Rattle.comparison.specs.Running.{IsErrorOfJob, RunsOut, failure_of, is_open, work};
+ghost use Rattle.comparison.specs.Running.{IsErrorOfJob, IsWaiting, RunsOut, failure_of, is_open};
+ghost use Rattle.comparison.specs.Running.{work};
+ghost use Rattle.comparison.specs.Together.{StandBehind};
 ghost use Rattle.sinks.specs.Owned.{event_of};
 ghost use Rattle.streams.specs.Pieces.{ByReads};
 
@@ -14,13 +17,13 @@ use crate::difference::{Comparison, Difference, Spot};
 use crate::follower::Follower;
 use crate::running_job::RunningJob;
 use crate::texts::pass_same_lines;
-use crate::together::go_together;
+use crate::together::{count_fed, take_of_both};
 use device_profile::Profile;
 use pcl_items::Place;
 use pcl_lexer::one_reading;
 use sinks::OwnedEvent;
 use std::alloc::Allocator;
-use streams::{Error, Source};
+use streams::{Error, PIECE, Source};
 use verdict::Failure;
 
 /// One of two jobs.
@@ -69,6 +72,117 @@ pub fn compare_jobs<S: Source, T: Source, A: Allocator + Copy, P: Allocator>(
     let found = compare_events(old_job, &mut first, new_job, &mut follower, &mut spot)?;
     let mut second = follower.into_job();
     finish(old_job, &mut first, new_job, &mut second, found)
+}
+
+/// Carries out the first of two jobs for both, as long as the same is read of both, and counts what
+/// both make. The answer is NEW, as it stands where they part, or at the end of both.
+fn go_together<'p, S: Source, T: Source, A: Allocator + Copy, P: Allocator>(
+    alloc: A,
+    old_job: &mut S,
+    new_job: &mut T,
+    both: &mut RunningJob<'p, A, P>,
+    spot: &mut Spot,
+) -> Result<Follower<'p, A, P>, Unread>
+    requires old_job { IsFalse (S.state old_job.old).failed }
+    requires new_job { IsFalse (T.state new_job.old).failed }
+    requires none { both.old.events ≡ [] }
+    ensures stand { IfOk result (λ second. StandBehind
+        (S.state old_job.old) (S.state old_job.new) (T.state new_job.old) (T.state new_job.new)
+        both.old both.new spot.old spot.new (Some second)) }
+    ensures number { both.new.number ≡ both.old.number }
+    ensures new_number { IfOk result (λ second. second.run.number ≡ both.old.number) }
+    ensures old_read { (S.state old_job.new).failed ≡ is_unread Which.Old result }
+    ensures new_read { (T.state new_job.new).failed ≡ is_unread Which.New result }
+    ensures err { IfErr result (λ unread. IsErrorOfJob unread.error) }
+{
+    'pieces: while both.is_open() {
+        let parted = go_on_together(alloc, old_job, new_job, both, spot)?;
+        match parted {
+            None => {}
+            Some(second) => return Ok(second),
+        }
+    }
+    match both.copied(alloc) {
+        Ok(second) => Ok(Follower::behind(second)),
+        Err(_) => Err(unread(Which::New, Error::Memory)),
+    }
+}
+
+/// Carries out for both what the bytes so far decide, and reads on; answers NEW where they part.
+fn go_on_together<'p, S: Source, T: Source, A: Allocator + Copy, P: Allocator>(
+    alloc: A,
+    old_job: &mut S,
+    new_job: &mut T,
+    both: &mut RunningJob<'p, A, P>,
+    spot: &mut Spot,
+) -> Result<Option<Follower<'p, A, P>>, Unread>
+    requires old_job { IsFalse (S.state old_job.old).failed }
+    requires new_job { IsFalse (T.state new_job.old).failed }
+    requires running { is_open both.old.progress ≡ true }
+    requires none { both.old.events ≡ [] }
+    ensures stand { IfOk result (λ parted. StandBehind
+        (S.state old_job.old) (S.state old_job.new) (T.state new_job.old) (T.state new_job.new)
+        both.old both.new spot.old spot.new parted) }
+    ensures less { OnOk result (work both.new < work both.old) }
+    ensures none { OnOk result (both.new.events ≡ []) }
+    ensures number { both.new.number ≡ both.old.number }
+    ensures new_number { IfOk result (λ parted. IfSome parted (λ second.
+        second.run.number ≡ both.old.number)) }
+    ensures old_read { (S.state old_job.new).failed ≡ is_unread Which.Old result }
+    ensures new_read { (T.state new_job.new).failed ≡ is_unread Which.New result }
+    ensures err { IfErr result (λ unread. IsErrorOfJob unread.error) }
+{
+    match count_fed(both, spot) {
+        Ok(true) => read_both(alloc, old_job, new_job, both),
+        Ok(false) => Ok(None),
+        Err(_) => Err(unread(Which::Old, Error::Memory)),
+    }
+}
+
+/// Reads on in both; answers NEW where they part.
+fn read_both<'p, S: Source, T: Source, A: Allocator + Copy, P: Allocator>(
+    alloc: A,
+    old_job: &mut S,
+    new_job: &mut T,
+    both: &mut RunningJob<'p, A, P>,
+) -> Result<Option<Follower<'p, A, P>>, Unread>
+    requires old_job { IsFalse (S.state old_job.old).failed }
+    requires new_job { IsFalse (T.state new_job.old).failed }
+    requires waits { IsWaiting both.old }
+    ensures stand { (spot : Spot) → IfOk result (λ parted. StandBehind
+        (S.state old_job.old) (S.state old_job.new) (T.state new_job.old) (T.state new_job.new)
+        both.old both.new spot spot parted) }
+    ensures less { OnOk result (work both.new < work both.old) }
+    ensures none { OnOk result (both.new.events ≡ []) }
+    ensures number { both.new.number ≡ both.old.number }
+    ensures new_number { IfOk result (λ parted. IfSome parted (λ second.
+        second.run.number ≡ both.old.number)) }
+    ensures old_read { (S.state old_job.new).failed ≡ is_unread Which.Old result }
+    ensures new_read { (T.state new_job.new).failed ≡ is_unread Which.New result }
+    ensures err { IfErr result (λ unread. IsErrorOfJob unread.error) }
+{
+    if !both.may_read() {
+        return Err(unread(Which::Old, Error::Turns));
+    }
+    let (mut piece, mut other) = ([0u8; PIECE], [0u8; PIECE]);
+    let Ok(count) = old_job.read(&mut piece) else {
+        return Err(unread(Which::Old, Error::Read));
+    };
+    let Ok(new_count) = new_job.read(&mut other) else {
+        return Err(unread(Which::New, Error::Read));
+    };
+    match take_of_both(alloc, both, &piece[..count], &other[..new_count]) {
+        Ok(None) => Ok(None),
+        Ok(Some(second)) => Ok(Some(Follower::behind(second))),
+        Err(_) => Err(unread(Which::Old, Error::Memory)),
+    }
+}
+
+/// That a job could not be read, and why.
+fn unread(which: Which, error: Error) -> Unread
+    ensures { result ≡ record { which = which; error = error } }
+{
+    Unread { which, error }
 }
 
 /// Carries out the rest of two jobs that were compared up to what was found, which holds where

@@ -1,7 +1,7 @@
 use Rattle.std.proofs.Common.{◌≡◌, [], IsFalse, None}
 use Rattle.comparison.specs.Running.{work}
 use Rattle.comparison.specs.Together.{StandBehind}
-use Rattle.comparison.proofs.together.go_together.Given as goal
+use Rattle.comparison.proofs.compare.go_together.Given as goal
 
 abbrev pub invariant-pieces : goal.invariant-pieces
 invariant-pieces g l = record {

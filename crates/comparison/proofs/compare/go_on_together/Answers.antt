@@ -3,7 +3,7 @@ use Rattle.std.proofs.lemmas.Result.{IfOk-weaker, on_ok_weaker}
 use Rattle.comparison.specs.Running.{work}
 use Rattle.comparison.specs.Together.{StandBehind}
 use Rattle.comparison.proofs.Partings.{sooner_read, stand_further, stand_on}
-use Rattle.comparison.proofs.together.go_on_together.Goals as goal
+use Rattle.comparison.proofs.compare.go_on_together.Goals as goal
 
 pub read_both-requires-clause-waits : goal.read_both-requires-clause-waits
 read_both-requires-clause-waits g c = c.count_fed.ensures.waits (c.in-Ok-true.is ∙ ap Ok c.in-Ok-true.field-0-test)

@@ -3,7 +3,7 @@ use Rattle.comparison.specs.Comparing.{Following}
 use Rattle.comparison.specs.Running.{RunState}
 use Rattle.comparison.specs.Together.{StandBehind}
 use Rattle.comparison.proofs.Partings.{part_here, stand_further, stand_still}
-use Rattle.comparison.proofs.together.go_together.Goals as goal
+use Rattle.comparison.proofs.compare.go_together.Goals as goal
 
 pub pieces-init : goal.pieces-init
 pieces-init g c = record {

@@ -2,7 +2,7 @@ use Rattle.std.proofs.Common.{[], arith, ap, rules, subst, take, IfOk, None, Ok,
 use Rattle.comparison.specs.Running.{RunState}
 use Rattle.comparison.specs.Together.{TakenOfBoth}
 use Rattle.comparison.proofs.Partings.{both_read, over_by, parted_read}
-use Rattle.comparison.proofs.together.read_both.Goals as goal
+use Rattle.comparison.proofs.compare.read_both.Goals as goal
 
 pub returns-in-Ok-None-clause-stand : goal.returns-in-Ok-None-clause-stand
 returns-in-Ok-None-clause-stand g c = λ spot.
