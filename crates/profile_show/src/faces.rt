@@ -19,7 +19,7 @@ ghost use Rattle.profile_show.specs.Faces.{
 
 use crate::label::Label;
 use crate::parts::{Part, push_parts};
-use crate::words::push_cut;
+use crate::phrases::push_cut;
 use device_profile::{CodeRange, FontRequest, FontRow, Profile};
 use std::alloc::{AllocError, Allocator};
 

@@ -7,6 +7,7 @@ mod label;
 mod pages;
 mod panel;
 mod parts;
+mod phrases;
 mod shown;
 mod words;
 

@@ -14,9 +14,8 @@ ghost use Rattle.profile_show.specs.Panel.{
 
 use crate::label::Label;
 use crate::parts::{Part, push_parts};
-use crate::words::{
-    push_cut, push_numbered, push_orientation, push_size, push_vmi, sides_name, termination_name,
-};
+use crate::phrases::{push_cut, push_vmi};
+use crate::words::{push_numbered, push_orientation, push_size, sides_name, termination_name};
 use device_profile::{Field, FontRequest, Profile};
 use shown_bytes::push_number;
 use std::alloc::{AllocError, Allocator};

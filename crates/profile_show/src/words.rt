@@ -2,8 +2,6 @@
 ghost use Rattle.std.specs.Prelude.{◌≡◌, ◌++◌, OnOk};
 ghost use Rattle.profile_show.specs.Words.{
   behind_space,
-  cut_words,
-  lines_an_inch,
   numbered,
   orientation_name,
   orientation_words,
@@ -16,13 +14,11 @@ ghost use Rattle.profile_show.specs.Words.{
   termination_name,
   typeface_of,
   typeface_words,
-  vmi_words,
   weight_words,
 };
 
 use crate::figures::push_signed_amount;
-use crate::parts::{Part, push_parts};
-use device_profile::{FontRequest, NamedSet, SymbolSet};
+use device_profile::{NamedSet, SymbolSet};
 use printer_models::{PAPERS, Paper, TYPEFACES, Typeface};
 use shown_bytes::{push_amount, push_lettered, push_number};
 use std::alloc::{AllocError, Allocator};
@@ -82,34 +78,6 @@ pub(crate) fn push_orientation<A: Allocator>(
     ensures { OnOk result (text.new.items ≡ text.old.items ++ orientation_words orientation) }
 {
     push_numbered(text, orientation_name(orientation), orientation)
-}
-
-/// What a VMI of 48/48 inch counts.
-const INCH: u32 = 480_000;
-
-/// Appends how many lines an inch has, where that is a whole number.
-fn push_lines_an_inch<A: Allocator>(text: &mut Vec<u8, A>, vmi: u32) -> Result<(), AllocError>
-    ensures { OnOk result (text.new.items ≡ text.old.items ++ lines_an_inch vmi) }
-{
-    if vmi == 0 || INCH % vmi != 0 {
-        return Ok(());
-    }
-    push_parts(
-        text,
-        &[
-            Part::Words(b" ("),
-            Part::Counted(INCH / vmi, b"line"),
-            Part::Words(b" an inch)"),
-        ],
-    )
-}
-
-/// Appends a VMI, in 1/48 inch.
-pub(crate) fn push_vmi<A: Allocator>(text: &mut Vec<u8, A>, vmi: u32) -> Result<(), AllocError>
-    ensures { OnOk result (text.new.items ≡ text.old.items ++ vmi_words vmi) }
-{
-    push_parts(text, &[Part::Amount(vmi), Part::Words(b"/48 inch")])?;
-    push_lines_an_inch(text, vmi)
 }
 
 /// The manual's words for the sides that are printed on.
@@ -227,29 +195,4 @@ pub(crate) fn push_weight<A: Allocator>(
             push_signed_amount(text, weight)
         }
     }
-}
-
-/// Appends all that selects a font but its symbol set.
-#[tactic(auto, unfolding(crate::specs::Words::cut_words))]
-pub(crate) fn push_cut<A: Allocator>(
-    text: &mut Vec<u8, A>,
-    request: &FontRequest,
-) -> Result<(), AllocError>
-    ensures { OnOk result (text.new.items ≡ text.old.items ++ cut_words request.now) }
-{
-    push_parts(
-        text,
-        &[
-            Part::Typeface(request.typeface),
-            Part::Words(b", "),
-            Part::Style(request.style),
-            Part::Words(b", "),
-            Part::Weight(request.weight),
-            Part::Words(b", "),
-            Part::Amount(request.pitch),
-            Part::Words(b" an inch, "),
-            Part::Amount(request.height),
-            Part::Words(b" points"),
-        ],
-    )
 }
