@@ -104,7 +104,7 @@ fn go_together<'p, S: Source, T: Source, A: Allocator + Copy, P: Allocator>(
     }
     match both.copied(alloc) {
         Ok(second) => Ok(Follower::behind(second)),
-        Err(_) => Err(unread(Which::New, Error::Memory)),
+        Err(_) => Err(unread_job(Which::New, Error::Memory)),
     }
 }
 
@@ -135,7 +135,7 @@ fn go_on_together<'p, S: Source, T: Source, A: Allocator + Copy, P: Allocator>(
     match count_fed(both, spot) {
         Ok(true) => read_both(alloc, old_job, new_job, both),
         Ok(false) => Ok(None),
-        Err(_) => Err(unread(Which::Old, Error::Memory)),
+        Err(_) => Err(unread_job(Which::Old, Error::Memory)),
     }
 }
 
@@ -162,24 +162,24 @@ fn read_both<'p, S: Source, T: Source, A: Allocator + Copy, P: Allocator>(
     ensures err { IfErr result (λ unread. IsErrorOfJob unread.error) }
 {
     if !both.may_read() {
-        return Err(unread(Which::Old, Error::Turns));
+        return Err(unread_job(Which::Old, Error::Turns));
     }
     let (mut piece, mut other) = ([0u8; PIECE], [0u8; PIECE]);
     let Ok(count) = old_job.read(&mut piece) else {
-        return Err(unread(Which::Old, Error::Read));
+        return Err(unread_job(Which::Old, Error::Read));
     };
     let Ok(new_count) = new_job.read(&mut other) else {
-        return Err(unread(Which::New, Error::Read));
+        return Err(unread_job(Which::New, Error::Read));
     };
     match take_of_both(alloc, both, &piece[..count], &other[..new_count]) {
         Ok(None) => Ok(None),
         Ok(Some(second)) => Ok(Some(Follower::behind(second))),
-        Err(_) => Err(unread(Which::Old, Error::Memory)),
+        Err(_) => Err(unread_job(Which::Old, Error::Memory)),
     }
 }
 
 /// That a job could not be read, and why.
-fn unread(which: Which, error: Error) -> Unread
+fn unread_job(which: Which, error: Error) -> Unread
     ensures { result ≡ record { which = which; error = error } }
 {
     Unread { which, error }
