@@ -66,15 +66,15 @@ returns-in_err-follower-clause-err g c =
 
 pub returns-in_err-found-clause-old_read : goal.returns-in_err-found-clause-old_read
 returns-in_err-found-clause-old_read g c =
-    let same = err_from_is_err_and c.from_residual.result c.from_residual.ensures.1 in
+    let same = err_from_is_err_and c.from_residual-in_err-found.result c.from_residual-in_err-found.ensures.1 in
     rw (same.1, same.2) c.in_err-found.ensures.old_read
 
 pub returns-in_err-found-clause-new_read : goal.returns-in_err-found-clause-new_read
 returns-in_err-found-clause-new_read g c =
-    let same = err_from_is_err_and c.from_residual.result c.from_residual.ensures.1 in
+    let same = err_from_is_err_and c.from_residual-in_err-found.result c.from_residual-in_err-found.ensures.1 in
     rw (same.1, same.2) c.in_err-found.ensures.new_read
 
 pub returns-in_err-found-clause-err : goal.returns-in_err-found-clause-err
 returns-in_err-found-clause-err g c =
-    let same = err_from_is_err_and c.from_residual.result c.from_residual.ensures.1 in
+    let same = err_from_is_err_and c.from_residual-in_err-found.result c.from_residual-in_err-found.ensures.1 in
     rw (same.1, same.2) c.in_err-found.ensures.err
