@@ -9,8 +9,9 @@ from commands import FIELDS
 from examples import profile_text
 
 ROOT = Path(__file__).resolve().parent.parent
-CODES = (b"", b"commands", b"12", b"12 Unset(Size)", b"nopen", b"36", b"items", b"113", b"0",
-         b"&lP", b"&l#P", b"&l66p", b"HT", b"x09", b"SC", b"paper source (&l#H)", b"no such code")
+# What the library takes; the words that the program reads as one of these are `runs.py`'s.
+CODES = (b"", b"commands", b"12", b"Unset", b"nopen", b"36", b"113", b"OpenStart", b"0", b"&lP",
+         b"&l#P", b"HT", b"x09", b"SC", b"paper source (&l#H)", b"no such code")
 # Some have bytes that texts escape.
 NAMES = ("job", "job", "a job.pcl", "#1", "Größe.pcl", "a\tb", "back\\slash", "a<b>&\"c\"")
 # In the order of their numbers in `struct pclcheck_panel_value`.

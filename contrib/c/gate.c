@@ -261,13 +261,14 @@ static bool feed(struct check *check, int file, int spool, bool is_kept)
     return true;
 }
 
-/* Feeds the job, and then its further copies from where the first is kept. */
+/* Feeds the job, and then its further copies from where the first is kept. A file is fed from its
+   start, as it is handed on. */
 static bool feed_copies(struct check *check, int job, unsigned copies, int spool)
 {
     struct stat told;
     bool is_kept = fstat(job, &told) == 0 && S_ISREG(told.st_mode);
 
-    if (!feed(check, job, spool, is_kept))
+    if ((is_kept && lseek(job, 0, SEEK_SET) != 0) || !feed(check, job, spool, is_kept))
         return false;
     for (unsigned at = 1; at < copies && check->answer == PCLCHECK_DONE; at++) {
         if (lseek(spool, 0, SEEK_SET) != 0 || !feed(check, spool, spool, true))
