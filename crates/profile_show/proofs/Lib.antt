@@ -1,3 +1,0 @@
-mod Appending
-mod Loops
-mod PartsInTurn

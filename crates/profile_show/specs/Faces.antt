@@ -1,5 +1,5 @@
 -- What is shown of the resident faces.
-use Rattle.std.specs.Prelude.{ℕ, ◌==◌, ◌&&◌, Bool, false, if◌then◌else◌, List, [], ◌∷◌, ◌++◌, flat_map, Option, None}
+use Rattle.std.specs.Prelude.{ℕ, ℤ, ◌==◌, ◌&&◌, Bool, false, if◌then◌else◌, List, [], ◌∷◌, ◌++◌, flat_map, Option, None}
 use Rattle.std.specs.Prelude.{Some, decimal, codes}
 use Rattle.std.specs.Ordering.{int_eq}
 use Rattle.std.specs.Option.{option_map_or}
@@ -7,6 +7,7 @@ use Rattle.device_profile.specs.declared.font.CodeRange.{CodeRange}
 use Rattle.device_profile.specs.declared.font.FontRequest.{FontRequest}
 use Rattle.device_profile.specs.Faces.{Face}
 use Rattle.profile_show.specs.Figures.{in_7200ths}
+use Rattle.profile_show.specs.declared.label.Label.{Label}
 use Rattle.profile_show.specs.declared.label.Label.TheVariants.{Advance, Ascent, Descent, Per7200}
 use Rattle.profile_show.specs.Label.{label}
 use Rattle.profile_show.specs.Words.{set_words, cut_words}
@@ -23,11 +24,14 @@ is_alike a b =
     is_same_cut a.request b.request
     && int_eq a.advance b.advance && int_eq a.ascent b.ascent && int_eq a.descent b.descent
 
+-- a length of a character
+unfoldable pub metric : Label → ℤ → List ℕ
+metric name length = label name ++ in_7200ths length
+
 -- how far a character moves the cursor and reaches up and down
 unfoldable pub metrics_line : Face → List ℕ
 metrics_line face =
-    label Advance ++ in_7200ths face.advance ++ label Ascent ++ in_7200ths face.ascent
-    ++ label Descent ++ in_7200ths face.descent ++ label Per7200
+    metric Advance face.advance ++ metric Ascent face.ascent ++ metric Descent face.descent ++ label Per7200
 
 unfoldable pub heading_lines : Face → List ℕ
 heading_lines face = codes "  " ++ cut_words face.request ++ codes "\n" ++ metrics_line face
@@ -48,13 +52,13 @@ abbrev pub ranges_words : List CodeRange → List ℕ
 ranges_words [] = codes "none"
 ranges_words (range ∷ more) = range_words range ++ flat_map other_range more
 
--- the id of a face and its symbol set, before the codes
+-- the id of a face, and its symbol set
 unfoldable pub face_words : Face → List ℕ
-face_words face =
-    codes "    face " ++ decimal face.id ++ codes ", " ++ set_words face.request.symbol_set ++ codes ": "
+face_words face = codes "    face " ++ decimal face.id ++ codes ", " ++ set_words face.request.symbol_set
 
+-- and the codes that print
 unfoldable pub set_line : Face → List ℕ
-set_line face = face_words face ++ ranges_words face.codes ++ codes "\n"
+set_line face = face_words face ++ codes ": " ++ ranges_words face.codes ++ codes "\n"
 
 unfoldable pub face_lines : Option Face → Face → List ℕ
 face_lines last_face face = heading_behind last_face face ++ set_line face

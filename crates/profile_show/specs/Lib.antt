@@ -1,7 +1,6 @@
 pub mod Label
 pub mod Figures
 pub mod Words
-pub mod Parts
 pub mod Panel
 pub mod Pages
 pub mod Faces

@@ -1,9 +1,10 @@
 -- What is shown of the pages.
-use Rattle.std.specs.Prelude.{ℕ, ◌==◌, ◌&&◌, nat_le, Bool, false, if◌then◌else◌, List, [], ◌++◌, flat_map, codes}
+use Rattle.std.specs.Prelude.{ℕ, ℤ, ◌==◌, ◌&&◌, nat_le, Bool, false, if◌then◌else◌, List, [], ◌++◌, flat_map, codes}
 use Rattle.std.specs.Ordering.{int_eq}
 use Rattle.std.specs.Option.{option_map_or}
 use Rattle.device_profile.specs.declared.geometry.Geometry.{Geometry}
 use Rattle.device_profile.specs.Printer.{row_at}
+use Rattle.profile_show.specs.declared.figures.LengthUnit.{LengthUnit}
 use Rattle.profile_show.specs.declared.figures.LengthUnit.TheVariants.{Millimetres, Inches, Dots}
 use Rattle.profile_show.specs.Figures.{length_in, sides_in}
 use Rattle.profile_show.specs.declared.label.Label.TheVariants.{Pages, LogicalPage, FromLeft, FromTop, PrintableArea}
@@ -35,26 +36,32 @@ orientations_words is_both page =
     orientation_words page.orientation
     ++ (if is_both then codes " and " ++ orientation_words (reverse_of page.orientation) else [])
 
--- the sides of the physical page
+-- the sides of the physical page, and what follows
+abbrev pub sheet_words : LengthUnit → Geometry → List ℕ → List ℕ
+sheet_words unit page behind = sides_in unit page.page_width page.page_height ++ behind
+
 unfoldable pub page_line : Geometry → List ℕ
 page_line page =
-    codes "    page: " ++ sides_in Millimetres page.page_width page.page_height
-    ++ codes ", " ++ sides_in Inches page.page_width page.page_height
-    ++ codes ", " ++ sides_in Dots page.page_width page.page_height ++ codes "\n"
+    codes "    page: " ++ sheet_words Millimetres page (codes ", ")
+    ++ sheet_words Inches page (codes ", ") ++ sheet_words Dots page (codes "\n")
 
--- the sides of the logical page, and where it lies
+-- a place on the page
+unfoldable pub place_words : ℤ → ℤ → List ℕ
+place_words left top = length_in Dots left ++ label FromLeft ++ length_in Dots top ++ label FromTop
+
 unfoldable pub logical_line : Geometry → List ℕ
 logical_line page =
     label LogicalPage ++ sides_in Dots page.logical_width page.logical_height
-    ++ codes ", " ++ length_in Dots page.logical_left ++ label FromLeft
-    ++ length_in Dots page.logical_top ++ label FromTop ++ codes "\n"
+    ++ codes ", " ++ place_words page.logical_left page.logical_top ++ codes "\n"
 
--- from where to where the printable area reaches
+-- from the one to the other
+unfoldable pub span_words : ℤ → ℤ → List ℕ
+span_words first last = length_in Dots first ++ codes " to " ++ length_in Dots last
+
 unfoldable pub printable_line : Geometry → List ℕ
 printable_line page =
-    label PrintableArea ++ length_in Dots page.printable_left ++ codes " to " ++ length_in Dots page.printable_right
-    ++ codes " across, " ++ length_in Dots page.printable_top ++ codes " to " ++ length_in Dots page.printable_bottom
-    ++ codes " down\n"
+    label PrintableArea ++ span_words page.printable_left page.printable_right
+    ++ codes " across, " ++ span_words page.printable_top page.printable_bottom ++ codes " down\n"
 
 unfoldable pub page_heading : Bool → Geometry → List ℕ
 page_heading is_both page =

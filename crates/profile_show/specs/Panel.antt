@@ -44,9 +44,13 @@ values_words faces field [] = []
 values_words faces field (value ∷ more) =
     value_words faces field value ++ flat_map (other_words faces field) more
 
--- what a list of several values means: the finding on a job that leaves the field unset
+-- the finding on a job that leaves a field unset
+unfoldable pub unset_finding : Field → List ℕ
+unset_finding field = codes "12 Unset(" ++ field_name field ++ codes ")"
+
+-- what a list of several values means
 unfoldable pub unset_words : Field → List ℕ
-unset_words field = label Unset ++ codes "12 Unset(" ++ field_name field ++ codes ")\n"
+unset_words field = label Unset ++ unset_finding field ++ codes "\n"
 
 -- the line of that, where there are several
 abbrev pub unset_line : Field → List ℕ → List ℕ

@@ -96,9 +96,16 @@ weight_words weight =
     if int_eq weight (pos 0) then codes "medium"
     else (if int_eq weight (pos 30_000) then codes "bold" else codes "weight " ++ signed_amount weight)
 
--- all that selects a font but its symbol set: the design of the letters, and how large they are
-unfoldable pub cut_words : FontRequest → List ℕ
-cut_words request =
+-- the design of the letters
+unfoldable pub design_words : FontRequest → List ℕ
+design_words request =
     typeface_words request.typeface ++ codes ", " ++ style_words request.style ++ codes ", "
-    ++ weight_words request.weight ++ codes ", "
-    ++ amount request.pitch ++ codes " an inch, " ++ amount request.height ++ codes " points"
+    ++ weight_words request.weight
+
+-- how large they are
+unfoldable pub letter_size : FontRequest → List ℕ
+letter_size request = amount request.pitch ++ codes " an inch, " ++ amount request.height ++ codes " points"
+
+-- all that selects a font but its symbol set
+unfoldable pub cut_words : FontRequest → List ℕ
+cut_words request = design_words request ++ codes ", " ++ letter_size request

@@ -10,6 +10,7 @@ ghost use Rattle.profile_show.specs.Faces.{
   is_alike,
   is_same_cut,
   lines_behind,
+  metric,
   metrics_line,
   other_range,
   range_words,
@@ -17,11 +18,13 @@ ghost use Rattle.profile_show.specs.Faces.{
   set_line,
 };
 
+use crate::figures::push_7200ths;
 use crate::label::Label;
-use crate::parts::{Part, push_parts};
-use crate::phrases::push_cut;
+use crate::words::{push_cut, push_set};
 use device_profile::{CodeRange, FontRequest, FontRow, Profile};
+use shown_bytes::push_number;
 use std::alloc::{AllocError, Allocator};
+use tick_length::Length;
 
 /// Appends the faces.
 #[tactic(auto, unfolding(crate::specs::Faces::faces_lines))]
@@ -124,21 +127,26 @@ fn push_metrics<A: Allocator, P: Allocator>(
 ) -> Result<(), AllocError>
     ensures { OnOk result (text.new.items ≡ text.old.items ++ metrics_line face.now) }
 {
-    push_parts(
-        text,
-        &[
-            Part::Label(Label::Advance),
-            Part::Length7200(face.advance()),
-            Part::Label(Label::Ascent),
-            Part::Length7200(face.ascent()),
-            Part::Label(Label::Descent),
-            Part::Length7200(face.descent()),
-            Part::Label(Label::Per7200),
-        ],
-    )
+    push_metric(text, Label::Advance, face.advance())?;
+    push_metric(text, Label::Ascent, face.ascent())?;
+    push_metric(text, Label::Descent, face.descent())?;
+    text.extend_from_slice(Label::Per7200.words())
 }
 
-/// Appends the id of a face and its symbol set, before its codes.
+/// Appends a length of a character.
+#[tactic(auto, unfolding(crate::specs::Faces::metric))]
+fn push_metric<A: Allocator>(
+    text: &mut Vec<u8, A>,
+    name: Label,
+    length: Length,
+) -> Result<(), AllocError>
+    ensures { OnOk result (text.new.items ≡ text.old.items ++ metric name length) }
+{
+    text.extend_from_slice(name.words())?;
+    push_7200ths(text, length)
+}
+
+/// Appends the id of a face, and its symbol set.
 #[tactic(auto, unfolding(crate::specs::Faces::face_words))]
 fn push_face_words<A: Allocator, P: Allocator>(
     text: &mut Vec<u8, A>,
@@ -146,16 +154,10 @@ fn push_face_words<A: Allocator, P: Allocator>(
 ) -> Result<(), AllocError>
     ensures { OnOk result (text.new.items ≡ text.old.items ++ face_words face.now) }
 {
-    push_parts(
-        text,
-        &[
-            Part::Words(b"    face "),
-            Part::Number(face.id()),
-            Part::Words(b", "),
-            Part::Set(face.request().symbol_set),
-            Part::Words(b": "),
-        ],
-    )
+    text.extend_from_slice(b"    face ")?;
+    push_number(text, u64::from(face.id()))?;
+    text.extend_from_slice(b", ")?;
+    push_set(text, face.request().symbol_set)
 }
 
 /// Appends the id of a face, its symbol set, and the codes that print.
@@ -167,6 +169,7 @@ fn push_set_line<A: Allocator, P: Allocator>(
     ensures { OnOk result (text.new.items ≡ text.old.items ++ set_line face.now) }
 {
     push_face_words(text, face)?;
+    text.extend_from_slice(b": ")?;
     push_ranges(text, face.codes())?;
     text.extend_from_slice(b"\n")
 }
@@ -209,9 +212,7 @@ fn push_other_range<A: Allocator>(text: &mut Vec<u8, A>, range: CodeRange) -> Re
 fn push_range<A: Allocator>(text: &mut Vec<u8, A>, range: CodeRange) -> Result<(), AllocError>
     ensures { OnOk result (text.new.items ≡ text.old.items ++ range_words range) }
 {
-    let (first, last) = (u32::from(range.first), u32::from(range.last));
-    push_parts(
-        text,
-        &[Part::Number(first), Part::Words(b"-"), Part::Number(last)],
-    )
+    push_number(text, u64::from(range.first))?;
+    text.extend_from_slice(b"-")?;
+    push_number(text, u64::from(range.last))
 }

@@ -6,8 +6,6 @@ mod figures;
 mod label;
 mod pages;
 mod panel;
-mod parts;
-mod phrases;
 mod shown;
 mod words;
 

@@ -10,16 +10,19 @@ ghost use Rattle.profile_show.specs.Pages.{
   page_line,
   page_lines,
   pages_lines,
+  place_words,
   printable_line,
   reverse_of,
+  sheet_words,
+  span_words,
 };
 
-use crate::figures::LengthUnit;
+use crate::figures::{LengthUnit, push_length, push_sides};
 use crate::label::Label;
-use crate::parts::{Part, push_parts};
-use crate::words::push_orientation;
+use crate::words::{push_orientation, push_size};
 use device_profile::{Geometry, Profile};
 use std::alloc::{AllocError, Allocator};
+use tick_length::Length;
 
 /// Appends the pages.
 #[tactic(auto, unfolding(crate::specs::Pages::pages_lines))]
@@ -129,14 +132,9 @@ fn push_page_heading<A: Allocator>(
 ) -> Result<(), AllocError>
     ensures { OnOk result (text.new.items ≡ text.old.items ++ page_heading is_both page.now) }
 {
-    push_parts(
-        text,
-        &[
-            Part::Words(b"  "),
-            Part::Size(page.size),
-            Part::Words(b", "),
-        ],
-    )?;
+    text.extend_from_slice(b"  ")?;
+    push_size(text, page.size)?;
+    text.extend_from_slice(b", ")?;
     push_orientations(text, is_both, page)?;
     text.extend_from_slice(b":\n")
 }
@@ -155,8 +153,8 @@ fn push_orientations<A: Allocator>(
     if !is_both {
         return Ok(());
     }
-    let reverse = reverse_of(page.orientation);
-    push_parts(text, &[Part::Words(b" and "), Part::Orientation(reverse)])
+    text.extend_from_slice(b" and ")?;
+    push_orientation(text, reverse_of(page.orientation))
 }
 
 /// Appends the line of the physical page.
@@ -164,41 +162,59 @@ fn push_orientations<A: Allocator>(
 fn push_page_line<A: Allocator>(text: &mut Vec<u8, A>, page: &Geometry) -> Result<(), AllocError>
     ensures { OnOk result (text.new.items ≡ text.old.items ++ page_line page.now) }
 {
-    push_parts(
-        text,
-        &[
-            Part::Words(b"    page: "),
-            Part::Sides(LengthUnit::Millimetres, page.page_width, page.page_height),
-            Part::Words(b", "),
-            Part::Sides(LengthUnit::Inches, page.page_width, page.page_height),
-            Part::Words(b", "),
-            Part::Sides(LengthUnit::Dots, page.page_width, page.page_height),
-            Part::Words(b"\n"),
-        ],
-    )
+    text.extend_from_slice(b"    page: ")?;
+    push_sheet(text, LengthUnit::Millimetres, page, b", ")?;
+    push_sheet(text, LengthUnit::Inches, page, b", ")?;
+    push_sheet(text, LengthUnit::Dots, page, b"\n")
 }
 
-/// Appends the line of the logical page, and where it lies.
+/// Appends the sides of the physical page, and what follows.
+fn push_sheet<A: Allocator>(
+    text: &mut Vec<u8, A>,
+    unit: LengthUnit,
+    page: &Geometry,
+    behind: &[u8],
+) -> Result<(), AllocError>
+    ensures { OnOk result
+        (text.new.items ≡ text.old.items ++ sheet_words unit page.now behind.now) }
+{
+    push_sides(text, unit, page.page_width, page.page_height)?;
+    text.extend_from_slice(behind)
+}
+
+/// Appends the line of the logical page.
 #[tactic(auto, unfolding(crate::specs::Pages::logical_line))]
 fn push_logical_line<A: Allocator>(text: &mut Vec<u8, A>, page: &Geometry) -> Result<(), AllocError>
     ensures { OnOk result (text.new.items ≡ text.old.items ++ logical_line page.now) }
 {
-    push_parts(
+    text.extend_from_slice(Label::LogicalPage.words())?;
+    push_sides(
         text,
-        &[
-            Part::Label(Label::LogicalPage),
-            Part::Sides(LengthUnit::Dots, page.logical_width, page.logical_height),
-            Part::Words(b", "),
-            Part::Length(LengthUnit::Dots, page.logical_left),
-            Part::Label(Label::FromLeft),
-            Part::Length(LengthUnit::Dots, page.logical_top),
-            Part::Label(Label::FromTop),
-            Part::Words(b"\n"),
-        ],
-    )
+        LengthUnit::Dots,
+        page.logical_width,
+        page.logical_height,
+    )?;
+    text.extend_from_slice(b", ")?;
+    push_place(text, page.logical_left, page.logical_top)?;
+    text.extend_from_slice(b"\n")
 }
 
-/// Appends the line of the printable area, from where to where it reaches.
+/// Appends a place on the page.
+#[tactic(auto, unfolding(crate::specs::Pages::place_words))]
+fn push_place<A: Allocator>(
+    text: &mut Vec<u8, A>,
+    left: Length,
+    top: Length,
+) -> Result<(), AllocError>
+    ensures { OnOk result (text.new.items ≡ text.old.items ++ place_words left top) }
+{
+    push_length(text, LengthUnit::Dots, left)?;
+    text.extend_from_slice(Label::FromLeft.words())?;
+    push_length(text, LengthUnit::Dots, top)?;
+    text.extend_from_slice(Label::FromTop.words())
+}
+
+/// Appends the line of the printable area.
 #[tactic(auto, unfolding(crate::specs::Pages::printable_line))]
 fn push_printable_line<A: Allocator>(
     text: &mut Vec<u8, A>,
@@ -206,18 +222,23 @@ fn push_printable_line<A: Allocator>(
 ) -> Result<(), AllocError>
     ensures { OnOk result (text.new.items ≡ text.old.items ++ printable_line page.now) }
 {
-    push_parts(
-        text,
-        &[
-            Part::Label(Label::PrintableArea),
-            Part::Length(LengthUnit::Dots, page.printable_left),
-            Part::Words(b" to "),
-            Part::Length(LengthUnit::Dots, page.printable_right),
-            Part::Words(b" across, "),
-            Part::Length(LengthUnit::Dots, page.printable_top),
-            Part::Words(b" to "),
-            Part::Length(LengthUnit::Dots, page.printable_bottom),
-            Part::Words(b" down\n"),
-        ],
-    )
+    text.extend_from_slice(Label::PrintableArea.words())?;
+    push_span(text, page.printable_left, page.printable_right)?;
+    text.extend_from_slice(b" across, ")?;
+    push_span(text, page.printable_top, page.printable_bottom)?;
+    text.extend_from_slice(b" down\n")
+}
+
+/// Appends from where to where an area reaches.
+#[tactic(auto, unfolding(crate::specs::Pages::span_words))]
+fn push_span<A: Allocator>(
+    text: &mut Vec<u8, A>,
+    first: Length,
+    last: Length,
+) -> Result<(), AllocError>
+    ensures { OnOk result (text.new.items ≡ text.old.items ++ span_words first last) }
+{
+    push_length(text, LengthUnit::Dots, first)?;
+    text.extend_from_slice(b" to ")?;
+    push_length(text, LengthUnit::Dots, last)
 }

@@ -6,6 +6,7 @@ ghost use Rattle.profile_show.specs.Panel.{
   other_words,
   panel_lines,
   request_words,
+  unset_finding,
   unset_line,
   unset_words,
   value_words,
@@ -13,9 +14,10 @@ ghost use Rattle.profile_show.specs.Panel.{
 };
 
 use crate::label::Label;
-use crate::parts::{Part, push_parts};
-use crate::phrases::{push_cut, push_vmi};
-use crate::words::{push_numbered, push_orientation, push_size, sides_name, termination_name};
+use crate::words::{
+    push_cut, push_numbered, push_orientation, push_set, push_size, push_vmi, sides_name,
+    termination_name,
+};
 use device_profile::{Field, FontRequest, Profile};
 use shown_bytes::push_number;
 use std::alloc::{AllocError, Allocator};
@@ -57,14 +59,9 @@ fn push_field<A: Allocator, P: Allocator>(
     ensures { OnOk result (text.new.items ≡ text.old.items ++ field_lines profile.now field) }
 {
     let values = profile.allowed(field);
-    push_parts(
-        text,
-        &[
-            Part::Words(b"  "),
-            Part::Words(field.key()),
-            Part::Words(b": "),
-        ],
-    )?;
+    text.extend_from_slice(b"  ")?;
+    text.extend_from_slice(field.key())?;
+    text.extend_from_slice(b": ")?;
     push_values(text, profile, field, values)?;
     text.extend_from_slice(b"\n")?;
     push_unset(text, field, values)
@@ -138,15 +135,19 @@ fn push_unset<A: Allocator>(
 fn push_unset_words<A: Allocator>(text: &mut Vec<u8, A>, field: Field) -> Result<(), AllocError>
     ensures { OnOk result (text.new.items ≡ text.old.items ++ unset_words field) }
 {
-    push_parts(
-        text,
-        &[
-            Part::Label(Label::Unset),
-            Part::Words(b"12 Unset("),
-            Part::Words(field.name()),
-            Part::Words(b")\n"),
-        ],
-    )
+    text.extend_from_slice(Label::Unset.words())?;
+    push_unset_finding(text, field)?;
+    text.extend_from_slice(b"\n")
+}
+
+/// Appends the finding on a job that leaves a field unset.
+#[tactic(auto, unfolding(crate::specs::Panel::unset_finding))]
+fn push_unset_finding<A: Allocator>(text: &mut Vec<u8, A>, field: Field) -> Result<(), AllocError>
+    ensures { OnOk result (text.new.items ≡ text.old.items ++ unset_finding field) }
+{
+    text.extend_from_slice(b"12 Unset(")?;
+    text.extend_from_slice(field.name())?;
+    text.extend_from_slice(b")")
 }
 
 /// Appends a value of a field.
@@ -181,7 +182,8 @@ fn push_font<A: Allocator, P: Allocator>(
     ensures { OnOk result
         (text.new.items ≡ text.old.items ++ font_words profile.now.faces id) }
 {
-    push_parts(text, &[Part::Words(b"face "), Part::Number(id)])?;
+    text.extend_from_slice(b"face ")?;
+    push_number(text, u64::from(id))?;
     match profile.face(id) {
         Some(face) => {
             text.extend_from_slice(b", ")?;
@@ -199,6 +201,7 @@ fn push_request<A: Allocator>(
 ) -> Result<(), AllocError>
     ensures { OnOk result (text.new.items ≡ text.old.items ++ request_words request.now) }
 {
-    push_parts(text, &[Part::Set(request.symbol_set), Part::Words(b", ")])?;
+    push_set(text, request.symbol_set)?;
+    text.extend_from_slice(b", ")?;
     push_cut(text, request)
 }

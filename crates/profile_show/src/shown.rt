@@ -12,10 +12,11 @@ ghost use Rattle.profile_show.specs.Shown.{
 };
 
 use crate::faces::push_faces;
+use crate::figures::push_counted;
 use crate::pages::push_pages;
 use crate::panel::push_panel;
-use crate::parts::{Part, push_parts};
 use device_profile::Profile;
+use shown_bytes::push_number;
 use std::alloc::{AllocError, Allocator};
 
 /// A text of lines that tells people what a profile says: its name; what the panel may have in each
@@ -80,7 +81,8 @@ fn push_trays<A: Allocator>(text: &mut Vec<u8, A>, trays: &[u32]) -> Result<(), 
     ensures { OnOk result (text.new.items ≡ text.old.items ++ tray_words trays.now) }
 {
     for tray in trays {
-        push_parts(text, &[Part::Words(b" "), Part::Number(*tray)])?;
+        text.extend_from_slice(b" ")?;
+        push_number(text, u64::from(*tray))?;
     }
     Ok(())
 }
@@ -90,14 +92,9 @@ fn push_trays<A: Allocator>(text: &mut Vec<u8, A>, trays: &[u32]) -> Result<(), 
 fn push_sides_line<A: Allocator>(text: &mut Vec<u8, A>, has_duplex: bool) -> Result<(), AllocError>
     ensures { OnOk result (text.new.items ≡ text.old.items ++ sides_line has_duplex) }
 {
-    push_parts(
-        text,
-        &[
-            Part::Words(b"  sides: "),
-            Part::Words(sides_held(has_duplex)),
-            Part::Words(b"\n"),
-        ],
-    )
+    text.extend_from_slice(b"  sides: ")?;
+    text.extend_from_slice(sides_held(has_duplex))?;
+    text.extend_from_slice(b"\n")
 }
 
 /// Whether the device prints on one side or on both.
@@ -116,14 +113,9 @@ fn push_macros_line<A: Allocator>(
 ) -> Result<(), AllocError>
     ensures { OnOk result (text.new.items ≡ text.old.items ++ macros_line depth memory) }
 {
-    push_parts(
-        text,
-        &[
-            Part::Words(b"  macros: "),
-            Part::Counted(depth, b"level"),
-            Part::Words(b", "),
-            Part::Counted(memory, b"byte"),
-            Part::Words(b"\n"),
-        ],
-    )
+    text.extend_from_slice(b"  macros: ")?;
+    push_counted(text, u64::from(depth), b"level")?;
+    text.extend_from_slice(b", ")?;
+    push_counted(text, u64::from(memory), b"byte")?;
+    text.extend_from_slice(b"\n")
 }

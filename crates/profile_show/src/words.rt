@@ -2,6 +2,10 @@
 ghost use Rattle.std.specs.Prelude.{◌≡◌, ◌++◌, OnOk};
 ghost use Rattle.profile_show.specs.Words.{
   behind_space,
+  cut_words,
+  design_words,
+  letter_size,
+  lines_an_inch,
   numbered,
   orientation_name,
   orientation_words,
@@ -14,11 +18,12 @@ ghost use Rattle.profile_show.specs.Words.{
   termination_name,
   typeface_of,
   typeface_words,
+  vmi_words,
   weight_words,
 };
 
-use crate::figures::push_signed_amount;
-use device_profile::{NamedSet, SymbolSet};
+use crate::figures::{push_counted, push_signed_amount};
+use device_profile::{FontRequest, NamedSet, SymbolSet};
 use printer_models::{PAPERS, Paper, TYPEFACES, Typeface};
 use shown_bytes::{push_amount, push_lettered, push_number};
 use std::alloc::{AllocError, Allocator};
@@ -78,6 +83,30 @@ pub(crate) fn push_orientation<A: Allocator>(
     ensures { OnOk result (text.new.items ≡ text.old.items ++ orientation_words orientation) }
 {
     push_numbered(text, orientation_name(orientation), orientation)
+}
+
+/// What a VMI of 48/48 inch counts.
+const INCH: u32 = 480_000;
+
+/// Appends how many lines an inch has, where that is a whole number.
+fn push_lines_an_inch<A: Allocator>(text: &mut Vec<u8, A>, vmi: u32) -> Result<(), AllocError>
+    ensures { OnOk result (text.new.items ≡ text.old.items ++ lines_an_inch vmi) }
+{
+    if vmi == 0 || INCH % vmi != 0 {
+        return Ok(());
+    }
+    text.extend_from_slice(b" (")?;
+    push_counted(text, u64::from(INCH / vmi), b"line")?;
+    text.extend_from_slice(b" an inch)")
+}
+
+/// Appends a VMI, in 1/48 inch.
+pub(crate) fn push_vmi<A: Allocator>(text: &mut Vec<u8, A>, vmi: u32) -> Result<(), AllocError>
+    ensures { OnOk result (text.new.items ≡ text.old.items ++ vmi_words vmi) }
+{
+    push_amount(text, u64::from(vmi))?;
+    text.extend_from_slice(b"/48 inch")?;
+    push_lines_an_inch(text, vmi)
 }
 
 /// The manual's words for the sides that are printed on.
@@ -151,10 +180,7 @@ fn typeface_of(number: u32) -> Option<Typeface>
 
 /// Appends a typeface by the name of its design, where it has one.
 #[tactic(auto, unfolding(crate::specs::Words::typeface_words))]
-pub(crate) fn push_typeface<A: Allocator>(
-    text: &mut Vec<u8, A>,
-    number: u32,
-) -> Result<(), AllocError>
+fn push_typeface<A: Allocator>(text: &mut Vec<u8, A>, number: u32) -> Result<(), AllocError>
     ensures { OnOk result (text.new.items ≡ text.old.items ++ typeface_words number) }
 {
     match typeface_of(number) {
@@ -167,7 +193,7 @@ pub(crate) fn push_typeface<A: Allocator>(
 }
 
 #[tactic(auto, unfolding(crate::specs::Words::style_words))]
-pub(crate) fn push_style<A: Allocator>(text: &mut Vec<u8, A>, style: u32) -> Result<(), AllocError>
+fn push_style<A: Allocator>(text: &mut Vec<u8, A>, style: u32) -> Result<(), AllocError>
     ensures { OnOk result (text.new.items ≡ text.old.items ++ style_words style) }
 {
     match style {
@@ -181,10 +207,7 @@ pub(crate) fn push_style<A: Allocator>(text: &mut Vec<u8, A>, style: u32) -> Res
 }
 
 #[tactic(auto, unfolding(crate::specs::Words::weight_words))]
-pub(crate) fn push_weight<A: Allocator>(
-    text: &mut Vec<u8, A>,
-    weight: i32,
-) -> Result<(), AllocError>
+fn push_weight<A: Allocator>(text: &mut Vec<u8, A>, weight: i32) -> Result<(), AllocError>
     ensures { OnOk result (text.new.items ≡ text.old.items ++ weight_words weight) }
 {
     match weight {
@@ -195,4 +218,43 @@ pub(crate) fn push_weight<A: Allocator>(
             push_signed_amount(text, weight)
         }
     }
+}
+
+/// Appends all that selects a font but its symbol set.
+#[tactic(auto, unfolding(crate::specs::Words::cut_words))]
+pub(crate) fn push_cut<A: Allocator>(
+    text: &mut Vec<u8, A>,
+    request: &FontRequest,
+) -> Result<(), AllocError>
+    ensures { OnOk result (text.new.items ≡ text.old.items ++ cut_words request.now) }
+{
+    push_design(text, request)?;
+    text.extend_from_slice(b", ")?;
+    push_letter_size(text, request)
+}
+
+/// Appends the design of the letters.
+#[tactic(auto, unfolding(crate::specs::Words::design_words))]
+fn push_design<A: Allocator>(text: &mut Vec<u8, A>, request: &FontRequest) -> Result<(), AllocError>
+    ensures { OnOk result (text.new.items ≡ text.old.items ++ design_words request.now) }
+{
+    push_typeface(text, request.typeface)?;
+    text.extend_from_slice(b", ")?;
+    push_style(text, request.style)?;
+    text.extend_from_slice(b", ")?;
+    push_weight(text, request.weight)
+}
+
+/// Appends how large the letters are.
+#[tactic(auto, unfolding(crate::specs::Words::letter_size))]
+fn push_letter_size<A: Allocator>(
+    text: &mut Vec<u8, A>,
+    request: &FontRequest,
+) -> Result<(), AllocError>
+    ensures { OnOk result (text.new.items ≡ text.old.items ++ letter_size request.now) }
+{
+    push_amount(text, u64::from(request.pitch))?;
+    text.extend_from_slice(b" an inch, ")?;
+    push_amount(text, u64::from(request.height))?;
+    text.extend_from_slice(b" points")
 }
