@@ -26,7 +26,7 @@ import subprocess
 import sys
 import tempfile
 from pathlib import Path
-from typing import Dict, Iterator, List, NamedTuple, Tuple
+from typing import Dict, Iterator, List, NamedTuple, Tuple, Union
 
 sys.dont_write_bytecode = True
 
@@ -153,14 +153,14 @@ class Batch(NamedTuple):
         return [library_cases.random_case(self.seed, number) for number in self.numbers]
 
 
-def answers_of(callers: Callers, cases: List[Case]) -> List[Dict[str, Answer]]:
+def answers_of(callers: Callers, cases: List[Case]) -> List[Union[Dict[str, Answer], str]]:
     """What the library answers: of all cases by one process, or each by its own where that fails.
-    Of a case that ends its process no call answers."""
+    Of a case on which it fails then, what it says."""
     try:
         return answers_in(callers.run("plain", "answers", cases))
-    except (ValueError, subprocess.TimeoutExpired):
+    except (ValueError, subprocess.TimeoutExpired) as fault:
         if len(cases) == 1:
-            return [{}]
+            return [str(fault)]
     return [answers for case in cases for answers in answers_of(callers, [case])]
 
 
@@ -173,8 +173,8 @@ def compared(batch: Batch) -> Tuple[int, List[str]]:
         os.chdir(folder)
         with Program(batch.program, batch.callers.batch) as program:
             for case, found in zip(cases, answers):
-                due = Due(program, case).answers()
-                told = differences(found, due) if found else ["a call ends the caller"]
+                told = [found] if isinstance(found, str) else \
+                    differences(found, Due(program, case).answers())
                 if told:
                     wrong.append("\n".join([*told, f"  {case.told}: {escaped(case.job)}"]))
         os.chdir("/")
@@ -195,7 +195,8 @@ def compare(batches: List[Batch], processes: int) -> Tuple[int, int]:
             differ += len(wrong)
             for told in wrong:
                 print(told)
-            print(f"library: {done} compared, {differ} differ so far", file=sys.stderr)
+            print(f"library: {done} compared, {differ} differ so far", file=sys.stderr,
+                  flush=True)
     return done, differ
 
 
