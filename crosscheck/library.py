@@ -26,7 +26,7 @@ import subprocess
 import sys
 import tempfile
 from pathlib import Path
-from typing import Dict, Iterator, List, NamedTuple, Tuple
+from typing import Dict, Iterator, List, NamedTuple, Tuple, Union
 
 sys.dont_write_bytecode = True
 
@@ -37,7 +37,8 @@ from run import escaped                                            # noqa: E402
 
 ROOT = Path(__file__).resolve().parent.parent
 BUILT = ROOT / "crates" / "pclcheck_c" / "out" / "built"
-SOURCES = [str(ROOT / "crosscheck" / name) for name in ("library.c", "library_calls.c")]
+CROSSCHECK = ROOT / "crosscheck"
+SOURCES = (CROSSCHECK / "library.c", CROSSCHECK / "library_calls.c")
 WRAPPED = "-Wl,--wrap=malloc,--wrap=realloc,--wrap=free"
 SECONDS = 3600
 # So many cases go through one process.
@@ -83,9 +84,12 @@ def faults_of_built() -> Iterator[str]:
 
 
 class Callers:
-    """The callers in C, as the compiler builds them, in a folder."""
+    """The callers in C, as the compiler builds them, in a folder, and what runs the program."""
 
     def __init__(self, folder: Path):
+        self.batch = folder / "batch_of_runs.so"
+        subprocess.run(["cc", "-shared", "-fPIC", "-O1", CROSSCHECK / "batch_of_runs.c", "-o",
+                        self.batch], check=True)
         self.built = {}
         for name, words in BUILDS.items():
             path = folder / name
@@ -149,28 +153,30 @@ class Batch(NamedTuple):
         return [library_cases.random_case(self.seed, number) for number in self.numbers]
 
 
-def answers_of(callers: Callers, cases: List[Case]) -> List[Dict[str, Answer]]:
+def answers_of(callers: Callers, cases: List[Case]) -> List[Union[Dict[str, Answer], str]]:
     """What the library answers: of all cases by one process, or each by its own where that fails.
-    Of a case that ends its process no call answers."""
+    Of a case on which it fails then, what it says."""
     try:
         return answers_in(callers.run("plain", "answers", cases))
-    except (ValueError, subprocess.TimeoutExpired):
+    except (ValueError, subprocess.TimeoutExpired) as fault:
         if len(cases) == 1:
-            return [{}]
+            return [str(fault)]
     return [answers for case in cases for answers in answers_of(callers, [case])]
 
 
 def compared(batch: Batch) -> Tuple[int, List[str]]:
     """How many cases were compared, and of each that differs in what."""
     cases = batch.cases()
-    program = Program(batch.program)
+    answers = answers_of(batch.callers, cases)
     wrong = []
     with tempfile.TemporaryDirectory(dir=quick_folder()) as folder:
         os.chdir(folder)
-        for case, found in zip(cases, answers_of(batch.callers, cases)):
-            told = differences(found, Due(program, case).answers()) if found else ["it ends badly"]
-            if told:
-                wrong.append("\n".join([*told, f"  {case.told}: {escaped(case.job)}"]))
+        with Program(batch.program, batch.callers.batch) as program:
+            for case, found in zip(cases, answers):
+                told = [found] if isinstance(found, str) else \
+                    differences(found, Due(program, case).answers())
+                if told:
+                    wrong.append("\n".join([*told, f"  {case.told}: {escaped(case.job)}"]))
         os.chdir("/")
     return len(cases), wrong
 
@@ -189,7 +195,8 @@ def compare(batches: List[Batch], processes: int) -> Tuple[int, int]:
             differ += len(wrong)
             for told in wrong:
                 print(told)
-            print(f"library: {done} compared, {differ} differ so far", file=sys.stderr)
+            print(f"library: {done} compared, {differ} differ so far", file=sys.stderr,
+                  flush=True)
     return done, differ
 
 

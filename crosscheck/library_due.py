@@ -3,6 +3,7 @@
 import json
 import os
 import re
+import subprocess
 from pathlib import Path
 from typing import Dict, List, NamedTuple, Optional, Tuple
 
@@ -37,21 +38,26 @@ class Told(NamedTuple):
 
 
 class Program:
-    """A program on the files of the folder in which this runs."""
+    """A program on the files of the folder in which this runs, in one process for many runs, which
+    `batch_of_runs.c` makes of it."""
 
-    def __init__(self, path: str):
-        self.path = path
+    def __init__(self, path: str, batch: Path):
         self.kept: Dict[Tuple[str, ...], Told] = {}
-        self.files = [(os.POSIX_SPAWN_OPEN, number, name, os.O_WRONLY | os.O_CREAT | os.O_TRUNC,
-                       0o600) for number, name in ((1, "output"), (2, "errors"))]
+        self.process = subprocess.Popen([path], env={**os.environ, "LD_PRELOAD": str(batch)},
+                                        stdin=subprocess.PIPE, stdout=subprocess.PIPE)
+
+    def __enter__(self) -> "Program":
+        return self
+
+    def __exit__(self, *_) -> None:
+        self.process.communicate()
 
     def run(self, *words: str) -> Told:
-        """One run. Many are made, so that no pipe and no thread is."""
-        number = os.posix_spawn(self.path, [self.path, *words], os.environ,
-                                file_actions=self.files)
-        _, ended = os.waitpid(number, 0)
-        return Told(os.waitstatus_to_exitcode(ended), Path("output").read_bytes(),
-                    Path("errors").read_bytes())
+        asked = f"{len(words)}\n" + "".join(f"{word}\0" for word in words)
+        self.process.stdin.write(asked.encode())
+        self.process.stdin.flush()
+        status = int(self.process.stdout.readline())
+        return Told(status, Path("output").read_bytes(), Path("errors").read_bytes())
 
     def once(self, *words: str) -> Told:
         """A run that answers the same for each case."""
