@@ -220,8 +220,7 @@ pub(crate) fn push_unheld_sentence<A: Allocator + Copy>(
 {
     push_named_first(alloc, text, job.as_bytes())?;
     text.extend_from_slice(b"the pages of this job cannot be compared")?;
-    push_unheld_cause(alloc, text, cause)?;
-    Ok(())
+    push_unheld_cause(alloc, text, cause)
 }
 
 #[tactic(auto, unfolding(crate::specs::Sentences::unheld_cause))]
