@@ -6,7 +6,7 @@
 #include <stdlib.h>
 #include <time.h>
 
-enum { RUNS = 20, CHECKS_OF_RUN = 500 };
+enum { RUNS = 200, CHECKS_OF_RUN = 50 };
 
 static uint8_t *read_file(const char *path, size_t *length)
 {

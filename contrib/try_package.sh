@@ -140,10 +140,10 @@ try 'the completion for bash loads' writes 'complete -F _pclcheck pclcheck' \
 try 'man 3 pclcheck shows' shows '3 pclcheck' NAME SYNOPSIS 'RETURN VALUE' ATTRIBUTES
 try 'a program is built against the library' inside sh -c "$build \$(pkg-config --libs pclcheck)"
 try 'it needs libpclcheck.so.0' inside sh -c 'ldd /root/check | grep "libpclcheck.so.0 => /"'
-try 'it runs' writes "$examples/letter.pcl: hp-laserjet-4250 prints this job (pages=2 marks=414)" \
+try 'it runs' writes "$examples/letter.pcl: each printer prints this job (pages=2 marks=414)" \
     /root/check "$examples/letter.pcl" /usr/share/pclcheck/profiles/hp-laserjet-4250.profile
 try 'a program is built with the library in it' inside sh -c "$build -l:libpclcheck.a"
-try 'it runs' writes "$examples/letter.pcl: hp-laserjet-4250 prints this job (pages=2 marks=414)" \
+try 'it runs' writes "$examples/letter.pcl: each printer prints this job (pages=2 marks=414)" \
     /root/check "$examples/letter.pcl" /usr/share/pclcheck/profiles/hp-laserjet-4250.profile
 rm -f "$system/root/check"
 # shellcheck disable=SC2086  # the packages are words

@@ -171,9 +171,10 @@ static void try_rooms(struct subject *subject)
 
 /* ---- memory */
 
-/* Refuses the request of this number to a call; false where it makes fewer. */
+/* Refuses the request of this number to a call that answers this otherwise; false where it makes
+ * fewer. A call that has found another error may tell that. */
 static bool try_refused(const struct call *call, struct subject *subject, size_t number,
-                        struct guarded room)
+                        uint32_t due, struct guarded room)
 {
     struct pclcheck_verdict verdict = subject->verdict;
     struct pclcheck_refusal refusal = subject->refusal;
@@ -190,7 +191,7 @@ static bool try_refused(const struct call *call, struct subject *subject, size_t
         tell_wrong(subject, call->name, "keeps memory, or frees what is not its own");
     if (!was_refused)
         return false;
-    if (answer != PCLCHECK_MEMORY)
+    if (answer != PCLCHECK_MEMORY && (answer == PCLCHECK_DONE || answer != due))
         tell_wrong(subject, call->name, "does not tell that memory was refused");
     if (needed != SOME_MORE || !is_untouched(room.bytes, room.length)
         || memcmp(&verdict, &subject->verdict, sizeof verdict) != 0
@@ -223,9 +224,9 @@ static void try_memory(struct subject *subject)
     for (size_t at = 0; at < CALL_COUNT; at++) {
         struct guarded text, room;
         size_t number = 1;
-        make(&CALLS[at], subject, &text);
+        uint32_t due = make(&CALLS[at], subject, &text);
         room = guarded_room(text.length);
-        while (try_refused(&CALLS[at], subject, number, room))
+        while (try_refused(&CALLS[at], subject, number, due, room))
             number++;
         guarded_free(room);
         guarded_free(text);

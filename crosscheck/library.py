@@ -7,7 +7,7 @@ The header has to be C and C++, and the shared library to have the names of its 
 random jobs and their printers, and each example, go through each call, whole and in pieces: the
 numbers and the bytes of each text have to be those of the program's commands, and a room has to be
 as long as the call said. Many jobs go through one process.
-Of the first N jobs (`--tried`, 300) and of the examples, where they are small, rooms are tried that
+Of N random jobs (`--tried`, 300) and of the examples, where they are small, rooms are tried that
 are too short or too long, each request for memory is refused in turn, and eight threads make the
 calls side by side: as it is, and with the sanitizers of the compiler; and of N of them
 (`--by-valgrind`, 20) by valgrind, where it is there.
@@ -208,7 +208,7 @@ def tried(callers: Callers, name: str, mode: str, cases: List[Case],
     except (ValueError, subprocess.TimeoutExpired) as found:
         print(found)
         return False
-    print(f"{len(cases)} tried: {' '.join([*by[:1], name, mode])}")
+    print(f"{len(cases)} tried: {' '.join([*by[:1], name, mode])}", flush=True)
     return True
 
 
@@ -237,7 +237,7 @@ def main(words: argparse.Namespace) -> int:
         done, differ = compare([Batch(str(Path(words.program).resolve()), callers, words.seed, part)
                                 for part in [range(0), *parts]], words.jobs)
         cases = [library_cases.random_case(words.seed, number)
-                 for number in range(min(words.count, words.tried))] + library_cases.examples()
+                 for number in range(words.tried)] + library_cases.examples()
         is_right = try_all(callers, [case for case in cases if len(case.job) <= MOST_TRIED],
                            words.by_valgrind)
     print(f"{done} compared, {differ} differ")

@@ -234,36 +234,35 @@ static bool feed_pieces(struct subject *subject, struct pclcheck_session *sessio
     return true;
 }
 
-/* Whether a session that is over tells this again, whatever it is fed. */
-static bool stays_over(struct subject *subject, struct pclcheck_session *session, size_t length,
-                       uint8_t *text)
+/* What the sentence of a session answers. */
+static uint32_t sentence(struct subject *subject, struct pclcheck_session *session,
+                         struct pclcheck_verdict *verdict, uint8_t *text, size_t room,
+                         size_t *needed)
 {
-    struct pclcheck_verdict verdict = {0};
-    size_t needed = 0;
-    uint32_t fed = pclcheck_session_feed(&subject->fleet, session, subject->name.bytes,
-                                         subject->name.length);
-    uint32_t ended = pclcheck_session_end(&subject->fleet, session, &verdict);
-    uint32_t told = pclcheck_session_tell(&subject->fleet, session, subject->name.bytes,
-                                          subject->name.length, &verdict, text, 0, &needed);
-
-    return fed == PCLCHECK_JUDGED && ended == PCLCHECK_DONE && told == PCLCHECK_ROOM
-           && needed == length && is_same(&verdict, &subject->verdict);
+    return pclcheck_session_tell(&subject->fleet, session, subject->name.bytes,
+                                 subject->name.length, verdict, text, room, needed);
 }
 
-/* Ends a session: its end and its sentence have to tell the same, and again. */
+/* Ends a session: its end and its sentence have to tell the same, and again, whatever it is fed. */
 static uint32_t tell_end(struct subject *subject, struct pclcheck_session *session,
                          uint8_t *text, size_t room, size_t *needed)
 {
-    struct pclcheck_verdict verdict = {0};
-    uint32_t ended = pclcheck_session_end(&subject->fleet, session, &verdict);
-    uint32_t answer = pclcheck_session_tell(&subject->fleet, session, subject->name.bytes,
-                                            subject->name.length, &subject->verdict, text, room,
-                                            needed);
+    struct pclcheck_verdict ended = {0}, told = {0};
+    size_t length = 0;
+    uint32_t answer = pclcheck_session_end(&subject->fleet, session, &ended);
 
-    if (answer != PCLCHECK_DONE && answer != PCLCHECK_ROOM)
+    if (answer == PCLCHECK_DONE)
+        answer = sentence(subject, session, &told, text, 0, &length);
+    if (answer == PCLCHECK_MEMORY)
         return answer;
-    if (ended != PCLCHECK_DONE || !is_same(&verdict, &subject->verdict)
-        || !stays_over(subject, session, *needed, text))
+    if (answer == PCLCHECK_ROOM
+        && (!is_same(&ended, &told)
+            || pclcheck_session_feed(&subject->fleet, session, subject->name.bytes,
+                                     subject->name.length) != PCLCHECK_JUDGED))
+        return PCLCHECK_STOPPED;
+    answer = sentence(subject, session, &subject->verdict, text, room, needed);
+    if ((answer == PCLCHECK_DONE || answer == PCLCHECK_ROOM)
+        && (*needed != length || !is_same(&told, &subject->verdict)))
         return PCLCHECK_STOPPED;
     return answer;
 }
