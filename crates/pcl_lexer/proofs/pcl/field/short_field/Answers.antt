@@ -4,7 +4,7 @@ use Rattle.pcl_lexer.proofs.pcl.field.short_field.Goals as goal
 
 pub returns-clause-end : goal.returns-clause-end
 returns-clause-end c =
-    let whole = c.leading_digits-whole in
+    let whole = c.leading_digits-whole.ensures in
     let there = c.in-Some.ensures.lookup in
-    short_end c.args.bytes.now 5 _ c.in-Some.last.now _ whole.ensures.len whole.ensures.number c.if-whole-ge-SHORT.false
-    (omega (arith, c.if-whole-ge-SHORT.false)) there.3.0 there.1 (omega arith) (omega (arith, c.if-whole-ge-PAST_LIMIT.false))
+    short_end c.args.bytes.now 5 _ c.in-Some.last.now _ whole.len whole.number (omega arith) (omega arith) there.3.0 there.1 (omega arith)
+    (omega arith)
