@@ -6,6 +6,7 @@ pub mod Fields
 pub mod Heads
 pub mod Limits
 pub mod Shapes
+pub mod ShortFields
 pub mod Tables
 pub mod Counted
 pub mod Ungrouped

@@ -1,6 +1,7 @@
 -- Commands of forms that the machines of a fleet execute in step.
 use Rattle.std.specs.Prelude.{IfSome, is_none}
-use Rattle.std.proofs.Common.{◌≡◌, ◌⊎◌, inl, inr, ℕ, true, false, Option, None, Some, List, [], ◌∷◌, map, refl, sym, ap, subst, ◌∙◌}
+use Rattle.std.proofs.Common.{◌≡◌, ◌⊎◌, inl, inr, ℕ, true, false, Option, None, Some, List, [], ◌∷◌, map, length, refl, sym, ap, subst, ◌∙◌}
+use Rattle.std.proofs.Common.{arith}
 use Rattle.device_profile.specs.Printer.{Printer}
 use Rattle.pcl_items.specs.declared.pcl.command.Command.{Command}
 use Rattle.pcl_items.specs.Escapes.Value.{Amount}
@@ -10,6 +11,7 @@ use Rattle.page_env.specs.declared.lookup.FormBounds.{FormBounds}
 use Rattle.page_env.specs.Forms.{Across, AcrossDecipoints, Columns, Down, DownDecipoints, Filled, Form, Height, LeavesRest, Rows}
 use Rattle.page_env.specs.Forms.{Width, command_of}
 use Rattle.page_env.specs.Likeness.{command_asks_alike}
+use Rattle.page_env.specs.Mark.{Shape}
 use Rattle.page_env.specs.Settings.{state_at}
 use Rattle.page_env.specs.declared.text_lines.TextAppearance.{TextAppearance}
 use Rattle.page_env.specs.declared.text_lines.TextPlace.{TextPlace}
@@ -22,6 +24,8 @@ use Rattle.page_machine.specs.Likeness.{RunsOnLike}
 use Rattle.page_machine.specs.MachineState.{MachineState}
 use Rattle.page_machine.specs.Run.{peaks_of}
 use Rattle.page_machine.specs.TextLines.{MeasuresLines, PrintsLines, machine_behind}
+use Rattle.sinks.specs.declared.counts.Counts.{Counts}
+use Rattle.sinks.specs.Counts.{counts_after}
 use Rattle.preflight.specs.declared.lockstep.FleetMode.{FleetMode}
 use Rattle.preflight.specs.declared.lockstep.FleetMode.TheVariants.{Alone, Together, Apart}
 use Rattle.preflight.specs.Carriers.Each.{Each}
@@ -71,6 +75,11 @@ module _ (law : (item : Entry) → RunsOnLike item) (command : Command) (n : Amo
 
   pub all_form : Each (Does (Execute item) events) (first ∷ others_in fleet_mode first others) (first' ∷ others_in fleet_mode first' others)
   all_form = all_do law item events first first' first_does fleet_mode others formed (as_one fleet_mode together)
+
+-- no marks are counted as none
+pub no_marks : (shapes : List Shape) (counts : Counts) → length shapes ≡ 0 → counts ≡ counts_after (map Marked shapes) counts
+no_marks [] counts none = refl
+no_marks (shape ∷ shapes) counts none = absurd (omega (arith, none))
 
 -- what moves and rectangles take stays what it is
 pub forms_kept : (bounds : FormBounds) (old new : List MachineState) → FirstKeeps old new → FirstForms bounds old → FirstForms bounds new

@@ -19,7 +19,7 @@ use Rattle.preflight.specs.Carriers.Lockstep.{Fleet, machines_of, counts_of, Exe
 use Rattle.preflight.specs.Carriers.Checking.{ExecutesThrough}
 use Rattle.preflight.specs.Carriers.Loops.{MayExecute, IsFurther, ExecutesOn, ExecutesDecided}
 use Rattle.preflight.proofs.Answered.{came_closed, comes_on, further as further_by_item, further_by_text, further_here, not_further}
-use Rattle.preflight.proofs.Answered.{stands_behind, through_here, through_open}
+use Rattle.preflight.proofs.Answered.{stands_behind, text_through, through_here, through_open}
 use Rattle.preflight.proofs.CheckStates.{closed_on, open_by, open_is}
 
 -- all that was executed between the one and the other went, and no item is told
@@ -51,6 +51,18 @@ module _ {A P : Type 0} (first : Checking A P) where
     untold = goes.untold;
     further = further_here _ _ _ same goes.further;
     through = through_here _ _ _ _ _ _ _ same goes.through;
+  }
+
+  -- lines of text went, where the lexer stood so far
+  pub goes_text : (mid : Checking A P) (old lexer : LexerState) (machines : Fleet) → old ≡ mid.lexer → CheckGoesOn first mid →
+      IsFurther old lexer →
+      ExecutesThrough old lexer (machines_of mid.machines) (machines_of machines) (counts_of mid.machines) (counts_of machines) →
+      CheckGoesOn first (record mid { lexer = lexer; machines = machines })
+  goes_text mid old lexer machines same goes further through = record {
+    stands = goes.stands;
+    untold = goes.untold;
+    further = further_by_text _ _ _ _ same goes.further further;
+    through = text_through _ _ _ _ _ _ _ _ _ _ same goes.through through;
   }
 
   -- the machines were not moved

@@ -1,10 +1,14 @@
 //! What the machines of a fleet execute by what is known of the first one: moves, rectangles and
 //! lines of text on a page that is looked up once.
 
-ghost use Rattle.std.specs.Prelude.{◌≡◌, ◌≤◌, length, take, None, IfSome, IsFalse, IsTrue};
+ghost use Rattle.std.specs.Prelude.{◌≡◌, ◌≤◌, List, length, map, take, None, IfSome, IsFalse};
+ghost use Rattle.std.specs.Prelude.{IsTrue};
 ghost use Rattle.page_env.specs.declared.lookup.FormBounds.{FormBounds};
+ghost use Rattle.page_env.specs.Mark.{Shape};
+ghost use Rattle.page_machine.specs.Event.{Marked};
 ghost use Rattle.pcl_items.specs.Items.{Parameterized, amount, simple_view};
 ghost use Rattle.pcl_items.specs.Lines.{AreLines};
+ghost use Rattle.sinks.specs.Counts.{counts_after};
 ghost use Rattle.preflight.specs.Carriers.FormsInStep.{FirstForms, FirstKeeps, FirstMeasures};
 ghost use Rattle.preflight.specs.Carriers.Lockstep.{machines_of, counts_of, Execute, AreRunning};
 ghost use Rattle.preflight.specs.Carriers.Lockstep.{AllAdmit, GoesAlike, GoesInStep};
@@ -20,6 +24,7 @@ use page_env::{FormBounds, TextMeasure, is_of_forms, items_go_on_like_printers};
 use page_machine::items_run_on_like_printers;
 use pcl_items::{Command, Number, SimpleItem};
 use pcl_lexer::PlacedItem;
+use sinks::Counts;
 use std::alloc::Allocator;
 
 impl<'p, A: Allocator + Copy, P: Allocator> Lockstep<'p, A, P> {
@@ -76,24 +81,24 @@ impl<'p, A: Allocator + Copy, P: Allocator> Lockstep<'p, A, P> {
         let SimpleItem::Parameterized(command, n) = item else {
             return false;
         };
-        if !is_of_forms(command) {
-            return false;
-        }
-        self.keep_bounds(known);
+        self.keep_bounds(command, known);
         match &*known {
             None => false,
             Some(lent) => self.form_on(lent, command, n),
         }
     }
 
-    /// Keeps what moves and rectangles take from where the machines stand, if that is known and it
-    /// suffices to move the first.
+    /// Keeps what moves and rectangles take from where the machines stand, if this command may be
+    /// one of these, that is known and it suffices to move the first.
     #[inline(always)]
-    fn keep_bounds(&self, known: &mut Option<FormBounds>)
+    fn keep_bounds(&self, command: Command, known: &mut Option<FormBounds>)
         requires { IfSome known.old (λ bounds. FirstForms bounds (machines_of self.now)) }
         ensures { IfSome known.new (λ bounds. FirstForms bounds (machines_of self.now)) }
     {
         if known.is_some() {
+            return;
+        }
+        if !is_of_forms(command) {
             return;
         }
         self.look_up(known);
@@ -141,12 +146,13 @@ impl<'p, A: Allocator + Copy, P: Allocator> Lockstep<'p, A, P> {
         let Some(marks) = self.first.form_on(bounds, command, n) else {
             return false;
         };
-        self.counts.add_marks(marks);
+        count_marks(&mut self.counts, marks);
         true
     }
 
-    /// Has each machine execute lines of text as `execute_text` does, where the page is known. That
-    /// stays, and what text takes from the settings is kept.
+    /// Has each machine execute lines of text as `execute_text` does, where the page is known, and
+    /// the ends of lines without text, too. The page stays known, and what text takes from the
+    /// settings is kept.
     #[inline]
     pub fn execute_on_page(
         &mut self,
@@ -164,12 +170,12 @@ impl<'p, A: Allocator + Copy, P: Allocator> Lockstep<'p, A, P> {
             FirstForms bounds (machines_of self.new) }
     {
         match bytes {
-            [b' '..=255, ..] => self.execute_begun(bytes, measure),
+            [b' '..=255 | b'\r' | b'\n', ..] => self.execute_begun(bytes, measure),
             _ => 0,
         }
     }
 
-    /// Does so with bytes that begin with text.
+    /// Does so with bytes that begin with text or with the end of a line.
     // A call of its own, so that commands keep their registers.
     #[inline(never)]
     fn execute_begun(&mut self, bytes: &[u8], measure: &mut Option<TextMeasure<'p, P>>) -> usize
@@ -200,6 +206,15 @@ impl<'p, A: Allocator + Copy, P: Allocator> Lockstep<'p, A, P> {
         if measure.is_some() {
             return;
         }
+        self.look_up_measure(measure);
+    }
+
+    /// Looks it up.
+    // A call of its own, so that lines clear no room for what it puts together.
+    #[inline(never)]
+    fn look_up_measure(&self, measure: &mut Option<TextMeasure<'p, P>>)
+        ensures { IfSome measure.new (λ m. FirstMeasures m (machines_of self.now)) }
+    {
         *measure = self.line_measure();
     }
 
@@ -215,7 +230,7 @@ impl<'p, A: Allocator + Copy, P: Allocator> Lockstep<'p, A, P> {
         }
     }
 
-    /// Has the machines execute bytes that begin with text by a measure of the first one.
+    /// Has the machines execute such bytes by a measure of the first one.
     #[inline(always)]
     fn execute_measured(&mut self, bytes: &[u8], measure: &TextMeasure<'_, P>) -> usize
         requires running { AreRunning (machines_of self.old) }
@@ -238,6 +253,19 @@ impl<'p, A: Allocator + Copy, P: Allocator> Lockstep<'p, A, P> {
         self.counts.add_marks(lines.glyphs);
         lines.count
     }
+}
+
+/// Counts so many marks.
+// Moves and the sizes of rectangles make none, and then nothing is written.
+#[inline(always)]
+fn count_marks(counts: &mut Counts, marks: u64)
+    ensures { (shapes : List Shape) → length shapes ≡ marks →
+        counts.new ≡ counts_after (map Marked shapes) counts.old }
+{
+    if marks == 0 {
+        return;
+    }
+    counts.add_marks(marks);
 }
 
 // Where nothing is kept, as mostly, these two write nothing.

@@ -43,15 +43,17 @@ impl<A: Allocator + Copy, P: Allocator> Checking<'_, A, P> {
                 {
                     return false;
                 }
-            } else if let Some(read) = self.lexer.next_line_end() {
+            } else if !execute_text(&mut self.lexer, &mut self.machines, &known, &mut measure) {
+                // What is no text is a line end that is not known to go, or no part of a line.
+                let Some(read) = self.lexer.next_line_end() else {
+                    return true;
+                };
                 forget_bounds(&mut known);
                 forget_measure(&mut measure);
                 let (state, failing_item) = (&mut self.state, &mut self.failing_item);
                 if !self.machines.step_line_end(read, state, failing_item) {
                     return false;
                 }
-            } else if !execute_text(&mut self.lexer, &mut self.machines, &known, &mut measure) {
-                return true;
             }
         }
     }

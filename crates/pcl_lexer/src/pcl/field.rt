@@ -1,10 +1,10 @@
 //! Value fields.
 
 ghost use Rattle.std.specs.Prelude.{◌≡◌, ◌≤◌, ◌<◌, ◌+◌, ◌^◌, ◌==◌, nat_le, if◌then◌else◌, IsTrue};
-ghost use Rattle.std.specs.Prelude.{min, length, fold, drop, None};
+ghost use Rattle.std.specs.Prelude.{min, length, fold, drop, IfSome, None};
 ghost use Rattle.std.specs.List.{list_all};
 ghost use Rattle.std.specs.Option.{option_map};
-ghost use Rattle.pcl_lexer.specs.Escapes.FieldEnd.{field_end, end_view, EndsWithin};
+ghost use Rattle.pcl_lexer.specs.Escapes.FieldEnd.{Ended, field_end, end_view, EndsWithin};
 ghost use Rattle.pcl_lexer.specs.Escapes.Field.{sign_at, sign_len, has_point, digits, decimal};
 ghost use Rattle.pcl_lexer.specs.Escapes.Field.{four, field_at, amount_of, next_digit};
 ghost use Rattle.pcl_lexer.specs.Escapes.Field.{within_limit};
@@ -87,8 +87,58 @@ struct Decimals {
 // Inlined with all that it calls, so that its answer is never put together: a job is mostly
 // commands.
 #[inline(always)]
-#[tactic(auto, unfolding(crate::specs::Escapes::FieldEnd::field_end))]
 pub fn field_end(bytes: &[u8]) -> FieldEnd
+    ensures end { end_view result ≡ field_end bytes.now }
+    ensures within { EndsWithin (length bytes.now) result }
+{
+    match short_field(bytes) {
+        Some(field) => FieldEnd::Ended(field),
+        None => any_field_end(bytes),
+    }
+}
+
+/// So many bytes decide a field that is a whole number of fewer digits, as nearly each is.
+const SHORT: usize = 5;
+
+/// The field in front, where it has at most four digits, and neither a sign nor a point.
+// Nothing else of a field is looked for where a letter stands behind the digits.
+#[inline(always)]
+fn short_field(bytes: &[u8]) -> Option<EndedField>
+    ensures end { IfSome result (λ field.
+        Ended (amount field.number) field.len field.last ≡ field_end bytes.now) }
+    ensures within { IfSome result (λ field. (field.len ≤ 16) × (field.len < length bytes.now)) }
+{
+    if bytes.len() < SHORT {
+        return None;
+    }
+    let whole = leading_digits(&bytes[..SHORT], PAST_LIMIT);
+    if whole.len >= SHORT {
+        return None;
+    }
+    if whole.number >= PAST_LIMIT {
+        return None;
+    }
+    let Some(last) = bytes.get(whole.len) else {
+        return None;
+    };
+    if *last < b'@' {
+        return None;
+    }
+    let number = Number {
+        sign: Sign::Absent,
+        ten_thousandths: 10_000 * whole.number,
+    };
+    Some(EndedField {
+        len: whole.len,
+        number,
+        last: *last,
+    })
+}
+
+/// How the longest field in front ends, of whatever parts.
+#[inline(always)]
+#[tactic(auto, unfolding(crate::specs::Escapes::FieldEnd::field_end))]
+fn any_field_end(bytes: &[u8]) -> FieldEnd
     ensures end { end_view result ≡ field_end bytes.now }
     ensures within { EndsWithin (length bytes.now) result }
 {

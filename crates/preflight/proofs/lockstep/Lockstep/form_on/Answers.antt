@@ -20,12 +20,12 @@ returns g c =
       formed = λ yes.
           subst
           (λ (f : Fleet). GoesAlike (Execute (Parameterized c.args.command n)) f.machines
-          (first ∷ others_in before.fleet_mode first others) f.counts c.add_marks.new.self)
+          (first ∷ others_in before.fleet_mode first others) f.counts c.count_marks.new.counts)
           c.self.view_is (
             map Marked runs.shapes,
             all_form c.items_run_on_like_printers.ensures c.args.command n c.in-Some.marks before.fleet_mode before.first first others
                 running (c.self.invariant running) c.in-Alone.is forms.1 runs,
-            c.add_marks.ensures runs.shapes runs.count,
+            c.count_marks.ensures runs.shapes runs.count,
           );
       kept = λ yes.
           subst (λ (f : Fleet). FirstKeeps f.machines (first ∷ others_in before.fleet_mode first others)) c.self.view_is

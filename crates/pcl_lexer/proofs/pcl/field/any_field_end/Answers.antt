@@ -4,7 +4,7 @@ use Rattle.std.proofs.lemmas.Bool.{cond-true, cond-false, le-leb, lt-leb}
 use Rattle.pcl_items.specs.Escapes.Value.{most}
 use Rattle.pcl_lexer.specs.Escapes.Field.{within_limit}
 use Rattle.pcl_lexer.proofs.Escapes.FieldEnds.{IsShort, EndsAt, too_long, nothing_follows, follows}
-use Rattle.pcl_lexer.proofs.pcl.field.field_end.Goals as goal
+use Rattle.pcl_lexer.proofs.pcl.field.any_field_end.Goals as goal
 
 pub returns-then-field-gt-MOST_CHARACTERS-clause-end : goal.returns-then-field-gt-MOST_CHARACTERS-clause-end
 returns-then-field-gt-MOST_CHARACTERS-clause-end c =
