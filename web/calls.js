@@ -2,13 +2,13 @@
 /**
  * Calls of the built module: how texts, bytes and rows of numbers cross.
  *
- * A call gets its own memory, in which all lies that it reads and fills, and in which it works. The
- * text that it hands out is copied before the next call.
+ * A call gets memory of its own, in which all lies that it reads and fills, and some to work in,
+ * which it does not give back. So each call has an instance of the module to itself.
  */
 
 /**
- * What a call is given: bytes, a number as it stands, or an array of so many elements.
- * @typedef {Uint8Array | number | { array: Uint8Array, count: number }} Given
+ * What a call is given: bytes, a number of 64 bits, a truth value, or an array of so many elements.
+ * @typedef {Uint8Array | number | boolean | { array: Uint8Array, count: number }} Given
  */
 
 /**
@@ -34,25 +34,24 @@ const MEGABYTE = 1 << 20;
 const LEAST_WORK = 32 * MEGABYTE;
 const LEAST_ROOM = 4 * MEGABYTE;
 const MOST_MEMORY = 4096 * MEGABYTE - PAGE;
-const KEPT_MEMORY = 512 * MEGABYTE;
 
 /** @param {number} n */
 const aligned = (n) => Math.ceil(n / 16) * 16;
 
 /** @param {Given} given */
-const sizeOf = (given) => {
-  if (typeof given === "number") {
+function sizeOf(given) {
+  if (typeof given === "number" || typeof given === "boolean") {
     return 0;
   }
   return aligned(given instanceof Uint8Array ? given.length : given.array.length);
-};
+}
 
 /** Where in memory all lies that a call is given and fills. */
 class Layout {
   /** @param {number} at */
   constructor(at) {
     this.at = aligned(at);
-    /** @type {bigint[]} the words of the call */
+    /** @type {(bigint | boolean)[]} the words of the call */
     this.words = [];
   }
 
@@ -77,15 +76,30 @@ class Layout {
       this.words.push(BigInt(given));
       return;
     }
+    if (typeof given === "boolean") {
+      this.words.push(given);
+      return;
+    }
     const isBytes = given instanceof Uint8Array;
     const bytes = isBytes ? given : given.array;
     const at = this.place(bytes.length);
     new Uint8Array(memory, at, bytes.length).set(bytes);
     this.words.push(BigInt(isBytes ? given.length : given.count));
   }
+
+  /**
+   * Gives the call room for its text, and for the length of that.
+   * @param {number} size
+   */
+  room(size) {
+    const text = this.place(size);
+    this.words.push(BigInt(size));
+    return [text, this.place(8)];
+  }
 }
 
-/** How many bytes a row has: each number lies at a multiple of its own.
+/**
+ * A row has at most so many bytes.
  * @param {number[]} row
  */
 const rowSize = (row) => row.length * 8;
@@ -121,11 +135,6 @@ export class Instance {
     this.begin = Number(exports.__heap_base.value);
   }
 
-  /** Whether it holds no more memory than is kept for the next call. */
-  isSmall() {
-    return this.memory.buffer.byteLength <= KEPT_MEMORY;
-  }
-
   /**
    * Lets the memory be so many bytes, or tells that it cannot.
    * @param {number} size
@@ -157,23 +166,24 @@ export class Instance {
   run(call, work, room) {
     const given = call.given.reduce((sum, one) => sum + sizeOf(one), 0);
     const rows = call.rows.reduce((sum, row) => sum + aligned(rowSize(row)), 0);
-    const whole = aligned(this.begin) + aligned(work) + given + rows + aligned(room) + 16;
-    if (!this.reaches(whole)) {
+    if (!this.reaches(this.begin + given + rows + work + room + 64)) {
       return null;
     }
     const { buffer } = this.memory;
+    const view = new DataView(buffer);
     const layout = new Layout(this.begin);
     if (call.works) {
-      layout.place(work);
-      layout.words.push(BigInt(work));
+      const row = layout.place(16);
+      view.setBigUint64(row, BigInt(layout.at), true);
+      view.setBigUint64(row + 8, BigInt(work), true);
+      layout.at += work;
     }
     for (const one of call.given) {
       layout.give(buffer, one);
     }
     const placed = call.rows.map((row) => layout.place(rowSize(row)));
-    const [text, needed] = call.hasText ? [layout.place(room), this.rest(layout, room)] : [0, 0];
+    const [text, needed] = call.hasText ? layout.room(room) : [0, 0];
     const number = this.exports[call.name](...layout.words);
-    const view = new DataView(buffer);
     const length = call.hasText ? Number(view.getBigUint64(needed, true)) : 0;
     return {
       number,
@@ -181,16 +191,6 @@ export class Instance {
       bytes: number === DONE ? new Uint8Array(buffer, text, length).slice() : new Uint8Array(),
       needed: length,
     };
-  }
-
-  /**
-   * Gives the length of the room, and the place of the number that tells the length of the text.
-   * @param {Layout} layout
-   * @param {number} room
-   */
-  rest(layout, room) {
-    layout.words.push(BigInt(room));
-    return layout.place(8);
   }
 }
 
@@ -210,53 +210,28 @@ function grow(memory, pages) {
   }
 }
 
-/** Makes calls, each with as much memory as it turns out to need. */
-export class Calls {
-  /** @param {WebAssembly.Module} module */
-  constructor(module) {
-    this.module = module;
-    /** @type {Instance | null} */
-    this.instance = null;
-  }
-
-  /**
-   * Makes a call. The answer is of MEMORY where all memory that is to be had was not enough.
-   * @param {Call} call
-   * @returns {Answer}
-   */
-  make(call) {
-    let [work, room] = [LEAST_WORK, LEAST_ROOM];
-    /** @type {Answer} */
-    let last = { number: MEMORY, rows: call.rows.map(() => []), bytes: new Uint8Array(), needed: 0 };
-    for (;;) {
-      const answer = this.once(call, work, room);
-      if (answer === null) {
-        return last;
-      }
-      last = { ...answer, number: answer.number === ROOM ? MEMORY : answer.number };
-      if (answer.number === ROOM) {
-        room = answer.needed;
-      } else if (answer.number === MEMORY && call.works) {
-        work *= 4;
-      } else {
-        return answer;
-      }
+/**
+ * Makes a call with as much memory as it turns out to need. The answer is of MEMORY where all that
+ * is to be had was not enough.
+ * @param {WebAssembly.Module} module
+ * @param {Call} call
+ * @returns {Answer}
+ */
+export function makeCall(module, call) {
+  let [work, room] = [LEAST_WORK, LEAST_ROOM];
+  /** @type {Answer} */
+  const refused = { number: MEMORY, rows: [], bytes: new Uint8Array(), needed: 0 };
+  for (;;) {
+    const answer = new Instance(module).run(call, call.works ? work : 0, room);
+    if (answer === null) {
+      return refused;
     }
-  }
-
-  /**
-   * Makes a call once. After a trap an instance serves no more.
-   * @param {Call} call
-   * @param {number} work
-   * @param {number} room
-   */
-  once(call, work, room) {
-    const instance = this.instance ?? new Instance(this.module);
-    this.instance = null;
-    const answer = instance.run(call, work, room);
-    if (answer !== null && instance.isSmall()) {
-      this.instance = instance;
+    if (answer.number === ROOM) {
+      room = aligned(answer.needed);
+    } else if (answer.number === MEMORY) {
+      work *= 4;
+    } else {
+      return answer;
     }
-    return answer;
   }
 }

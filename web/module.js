@@ -6,7 +6,7 @@
  * worker. What a call cannot do it throws as a `Failure`.
  */
 
-import { Calls, DONE } from "./calls.js";
+import { DONE, makeCall } from "./calls.js";
 
 /** @typedef {import("./calls.js").Answer} Answer */
 /** @typedef {import("./calls.js").Given} Given */
@@ -47,7 +47,7 @@ import { Calls, DONE } from "./calls.js";
 /** @typedef {{ place: number, number: number, name: string }} Note */
 /** @typedef {Outcome & { text: string, notes: Note[] }} Notes */
 /** @typedef {Outcome & { bytes: Uint8Array }} Written */
-/** @typedef {{ place: number, spelling: string, isFault: boolean }} Listed */
+/** @typedef {{ place: number, spelling: string }} Listed */
 /** @typedef {{ name: string, title: string, papers: string[] }} Model */
 /** @typedef {{ hasFaults: boolean, text: string }} Lint */
 
@@ -171,7 +171,7 @@ const linesOf = (text) => text.split("\n").filter((line) => line !== "");
 export class Module {
   /** @param {WebAssembly.Module} module */
   constructor(module) {
-    this.calls = new Calls(module);
+    this.module = module;
   }
 
   /**
@@ -181,7 +181,7 @@ export class Module {
    * @param {number[][]} rows
    */
   make(name, given, ...rows) {
-    const answer = this.calls.make({ name, given, rows, works: true, hasText: true });
+    const answer = makeCall(this.module, { name, given, rows, works: true, hasText: true });
     if (answer.number !== DONE) {
       throw failureOf(answer);
     }
@@ -194,7 +194,8 @@ export class Module {
    * @param {Given[]} given
    */
   plainText(name, given) {
-    const answer = this.calls.make({ name, given, rows: [], works: false, hasText: true });
+    const call = { name, given, rows: [], works: false, hasText: true };
+    const answer = makeCall(this.module, call);
     return DECODER.decode(answer.bytes);
   }
 
@@ -217,8 +218,8 @@ export class Module {
    * @returns {Refusal | null}
    */
   refusal(profile) {
-    const [name, rows] = ["web_refusal", [REFUSAL]];
-    const answer = this.calls.make({ name, given: [profile], rows, works: true, hasText: false });
+    const [name, given, rows] = ["web_refusal", [profile], [REFUSAL]];
+    const answer = makeCall(this.module, { name, given, rows, works: true, hasText: false });
     if (answer.number === DONE) {
       return null;
     }
@@ -237,7 +238,18 @@ export class Module {
    * @returns {Verdict}
    */
   check(profiles, job, name = "job") {
-    const given = [...joined(profiles), ENCODER.encode(name), job];
+    return this.judge(profiles, job, name, false);
+  }
+
+  /**
+   * @param {Uint8Array[]} profiles
+   * @param {Uint8Array} job
+   * @param {string} name
+   * @param {boolean} isEach
+   * @returns {Verdict}
+   */
+  judge(profiles, job, name, isEach) {
+    const given = [...joined(profiles), isEach, ENCODER.encode(name), job];
     const { rows, text } = this.make("web_check", given, REFUSAL, JUDGEMENT);
     const [pages, marks, place, printer, page, x, y, number, kind, isPlaced] = rows[1];
     const sentence = text.replace(/\n$/, "");
@@ -265,7 +277,7 @@ export class Module {
    * @returns {Verdict[]}
    */
   checkEach(profiles, job, name = "job") {
-    return profiles.map((profile) => this.check([profile], job, name));
+    return profiles.map((profile) => this.judge([profile], job, name, true));
   }
 
   /**
@@ -292,7 +304,10 @@ export class Module {
    * @param {Uint8Array} job
    */
   pageCount(profile, job) {
-    return this.make("web_page_count", [profile, job], REFUSAL, COUNT).rows[1][0];
+    const { text } = this.make("web_page_count", [profile, job], REFUSAL);
+    const [first, failure] = text.split("\n");
+    const found = /\(pages=(\d+)\)$/.exec(first);
+    return Number(found?.[1] ?? 0) + (failure === "" ? 0 : 1);
   }
 
   /**
@@ -317,9 +332,7 @@ export class Module {
     const { text } = this.make("web_list_around", [job, place]);
     return linesOf(text).map((line) => {
       const blank = line.indexOf(" ");
-      const spelling = line.slice(blank + 1);
-      const isFault = spelling.startsWith("FAULT ");
-      return { place: Number(line.slice(0, blank)), spelling, isFault };
+      return { place: Number(line.slice(0, blank)), spelling: line.slice(blank + 1) };
     });
   }
 

@@ -23,5 +23,6 @@ pub use check_jobs::{ManyJobs, check_many, tell_refusal, word_of};
 pub use fleet_file::read_fleet_file;
 pub use job_objects::push_job_object;
 pub use json_object::Object;
+pub use kept_readings::read_near;
 pub use kept_texts::printer_names;
 pub use telling::{Format, Telling};

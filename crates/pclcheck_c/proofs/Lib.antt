@@ -1,3 +1,1 @@
 mod AsBox
-mod Known
-mod Pictures

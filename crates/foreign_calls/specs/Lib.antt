@@ -1,0 +1,6 @@
+pub mod Answers
+pub mod Checked
+pub mod Drawn
+pub mod Explained
+pub mod Panels
+pub mod Texts
