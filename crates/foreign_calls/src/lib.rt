@@ -1,5 +1,5 @@
-//! What calls of other programs do, be they of C or of a page in a browser: numbers, rows and texts,
-//! over memory of any allocator.
+//! What calls of other programs do, be they of C or of a page in a browser: numbers, rows and
+//! texts, over memory of any allocator.
 #![tactic(auto)]
 
 mod checking;

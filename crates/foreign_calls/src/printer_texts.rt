@@ -9,8 +9,8 @@ ghost use Rattle.renderings.specs.Pins.{pinned_rendering};
 ghost use Rattle.subcommands.specs.JobNotes.{noted, outcome_line};
 ghost use Rattle.verdict.specs.Failing.{failing};
 ghost use Rattle.foreign_calls.specs.Answers.{IsStop, IsWhyOf, outcome_row};
-ghost use Rattle.foreign_calls.specs.Texts.{IsNoted, IsPaged, IsPinned, IsWritten, IsWrittenWithLine};
-ghost use Rattle.foreign_calls.specs.Texts.{MayPin};
+ghost use Rattle.foreign_calls.specs.Texts.{IsNoted, IsPaged, IsPinned, IsWritten, MayPin};
+ghost use Rattle.foreign_calls.specs.Texts.{IsWrittenWithLine};
 
 use crate::panel_values::{are_fields, choices_of};
 use crate::rows::{PanelValue, outcome_row};

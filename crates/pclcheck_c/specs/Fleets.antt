@@ -1,6 +1,6 @@
 -- What the calls on fleets leave.
-use Rattle.std.specs.Prelude.{◌≡◌, ◌⊎◌, ◌+◌, ◌-◌, ◌==◌, ℕ, List, [], ◌∷◌, ◌++◌, length, map, Option, Some, Result, Ok, IfOk, IfErr}
-use Rattle.std.specs.Prelude.{Bool, false, true, if◌then◌else◌}
+use Rattle.std.specs.Prelude.{◌≡◌, ◌⊎◌, ◌+◌, ◌-◌, ◌==◌, ℕ, List, [], ◌∷◌, ◌++◌, Bool, false, true, if◌then◌else◌}
+use Rattle.std.specs.Prelude.{length, map, Option, Some, Result, Ok, IfOk, IfErr}
 use Rattle.device_profile.specs.Name.{printer_name}
 use Rattle.device_profile.specs.Printer.{Printer}
 use Rattle.device_profile.specs.Text.{printer_of_text}

@@ -1,5 +1,6 @@
 -- What a check of a job hands out.
-use Rattle.std.specs.Prelude.{◌≡◌, ◌⊎◌, ℕ, List, Bool, Option, None, Some, Result, Ok, Err, IfOk, IfErr, length, pos, unwrap_or}
+use Rattle.std.specs.Prelude.{◌≡◌, ◌⊎◌, ℕ, List, Bool, Option, None, Some, Result, Ok, Err, IfOk, IfErr}
+use Rattle.std.specs.Prelude.{length, pos, unwrap_or}
 use Rattle.device_profile.specs.Printer.{Printer}
 use Rattle.foreign_calls.specs.declared.why.Why.{Why}
 use Rattle.foreign_calls.specs.Answers.{IsStop, filled, room_number, verdict_row, why_number}

@@ -20,7 +20,8 @@ pub record IsPageCount (profile job told : List ℕ) : Type 0 where
   pub given_after : List (List ℕ)
   pub a : BeforeAndAfter
   pub left : LeavesPicture Fail
-      (IsNamedBy given_before given_after (IsNamed (Some profile) given_before given_after)) [] behind_all (codes "job") a
+      (IsNamedBy given_before given_after (IsNamed (Some profile) given_before given_after)) [] behind_all
+      (codes "job") a
   pub first_is : a.first.remaining ≡ Some job
   pub second_is : a.second.remaining ≡ Some job
   pub untold : a.err.taken ≡ []

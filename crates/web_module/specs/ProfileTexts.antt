@@ -1,5 +1,6 @@
 -- Texts of profiles, and what is wrong with them.
-use Rattle.std.specs.Prelude.{◌≡◌, ℕ, List, [], ◌∷◌, Bool, if◌then◌else◌, Result, Ok, Err, IfOk, IfErr, IsNone, length, ⊤}
+use Rattle.std.specs.Prelude.{◌≡◌, ℕ, List, [], ◌∷◌, Bool, if◌then◌else◌, Result, Ok, Err, IfOk, IfErr, IsNone}
+use Rattle.std.specs.Prelude.{length, ⊤}
 use Rattle.device_profile.specs.Printer.{Printer}
 use Rattle.device_profile.specs.Text.{printer_of_text}
 use Rattle.foreign_calls.specs.declared.rows.Refusal.{Refusal}

@@ -27,8 +27,8 @@ pub struct JudgementRow {
     pub y: i64,
     /// The number of the fault or finding by which it fails; 0 where it does not.
     pub number: u32,
-    /// Who says no: 1 pclcheck, which does not check this, 2 each printer, 3 this printer, 4 nobody,
-    /// but a panel decides, 5 nobody, but two printers differ; 0 where the job does not fail.
+    /// Who says no: 1 pclcheck, which does not check this, 2 each printer, 3 this printer, 4
+    /// nobody, but a panel decides, 5 nobody, but two printers differ; 0 where the job passes.
     pub kind: u32,
     /// 1 where it is told where the cursor stood, else 0.
     pub is_placed: u32,
