@@ -1,2 +1,2 @@
-mod Known
+pub mod Known
 mod Pictures

@@ -1,7 +1,6 @@
 -- What a check of a job hands out.
 use Rattle.std.specs.Prelude.{◌≡◌, ◌⊎◌, ℕ, List, Bool, Option, None, Some, Result, Ok, Err, IfOk, IfErr}
 use Rattle.std.specs.Prelude.{length, pos, unwrap_or}
-use Rattle.device_profile.specs.Printer.{Printer}
 use Rattle.foreign_calls.specs.declared.why.Why.{Why}
 use Rattle.foreign_calls.specs.Answers.{IsStop, filled, room_number, verdict_row, why_number}
 use Rattle.foreign_calls.specs.Checked.{IsJudged}
@@ -16,7 +15,7 @@ use Rattle.preflight.specs.declared.failing_item.SheetSpot.{SheetSpot}
 use Rattle.verdict.specs.declared.verdict.Verdict.{Verdict}
 use Rattle.verdict.specs.declared.verdict.Verdict.TheVariants.{Pass, Fail}
 use Rattle.web_module.specs.declared.rows.JudgementRow.{JudgementRow}
-use Rattle.web_module.specs.Printers.{IsFleetOf, IsRefusedOf, group_of}
+use Rattle.web_module.specs.Printers.{Fleet, IsFleetOf, IsRefusedOf, group_of}
 
 -- ---- rows
 
@@ -71,8 +70,7 @@ IsSaidOf group name job judged =
 -- for the printers of these texts
 abbrev pub IsJudgedOf : (texts : List (List ℕ)) → (is_each : Bool) → (name job : List ℕ) → Judged → Type 0
 IsJudgedOf texts is_each name job judged =
-    (printers : List Printer) × (names : List (List ℕ)) × IsFleetOf texts printers names
-    × IsSaidOf (group_of printers names is_each) name job judged
+    (fleet : Fleet) × IsFleetOf texts fleet × IsSaidOf (group_of fleet is_each) name job judged
 
 -- why there is none: work stopped, or a text is refused
 abbrev pub IsUnjudgedOf : (texts : List (List ℕ)) → Why → Type 0

@@ -80,13 +80,10 @@ pub record Lints (name profile : List ℕ) (number faults faults' : ℕ) (room r
 
 -- ---- why a text is refused
 
--- a text describes a printer, or why it does not
-abbrev pub IsRead : (profile : List ℕ) → Result Printer Why → Type 0
-IsRead profile (Ok printer) = printer_of_text profile ≡ Ok printer
-IsRead profile (Err why) = IsWhyOf 1 profile why
-
--- what a call leaves that tells it
-abbrev pub Refuses : (profile : List ℕ) → (number : ℕ) → Refusal → Refusal → Type 0
-Refuses profile number refusal refusal' =
-    (work : Result Printer Why) × IsRead profile work × (number ≡ work_number work)
-    × (refusal' ≡ refusal_by refusal work)
+-- what a call leaves that tells why a text describes no printer, where it does not
+pub record Refuses (profile : List ℕ) (number : ℕ) (refusal refusal' : Refusal) : Type 0 where
+  pub work : Result Printer Why
+  pub described : IfOk work (λ printer. printer_of_text profile ≡ Ok printer)
+  pub refused : IfErr work (IsWhyOf 1 profile)
+  pub number_is : number ≡ work_number work
+  pub refusal_is : refusal' ≡ refusal_by refusal work

@@ -1,14 +1,17 @@
 //! Checks of a job.
-ghost use Rattle.std.specs.Prelude.{◌≡◌, IfErr, IfOk};
+ghost use Rattle.std.specs.Prelude.{◌≡◌, None, Ok, IfErr, IfOk};
 ghost use Rattle.foreign_calls.specs.Answers.{IsStop, refusal_by};
+ghost use Rattle.job_reports.specs.Groups.{reported};
+ghost use Rattle.job_reports.specs.JobSentences.{job_sentence};
 ghost use Rattle.web_module.specs.Judgements.{IsHandedWith, IsJudgedOf, IsSaidOf, IsUnjudgedOf};
-ghost use Rattle.web_module.specs.Judgements.{row_left};
+ghost use Rattle.web_module.specs.Judgements.{judgement_row, row_left};
 ghost use Rattle.web_module.specs.Printers.{texts_of};
 
 use crate::printers::Printers;
 use crate::rows::{JudgementRow, judgement_row};
 use foreign_calls::{Refusal, Why, judge, put, sentence};
 use job_reports::PrinterGroup;
+use preflight::Judgement;
 use std::alloc::Allocator;
 use std::marker::Model;
 
@@ -29,7 +32,7 @@ impl<A: Allocator> Model for Judged<A> {
 
 /// Judges a job of this name for the printers of texts of these lengths, together or as one of
 /// them by itself.
-pub(crate) fn judged<A: Allocator + Copy>(
+pub(crate) fn judge_job<A: Allocator + Copy>(
     alloc: A,
     texts: &[u8],
     lengths: &[usize],
@@ -42,7 +45,10 @@ pub(crate) fn judged<A: Allocator + Copy>(
     ensures why { IfErr result (IsUnjudgedOf (texts_of lengths.now texts.now)) }
 {
     match Printers::read(alloc, texts, lengths) {
-        Ok(printers) => judged_for(alloc, &printers.group(is_each), name, job),
+        Ok(printers) => {
+            let asked = printers.group(is_each);
+            judged_for(alloc, &asked, name, job)
+        }
         Err(why) => Err(why),
     }
 }
@@ -57,10 +63,24 @@ fn judged_for<A: Allocator + Copy>(
     ensures judged { IfOk result (IsSaidOf group.now name.now job.now) }
     ensures stops { IfErr result IsStop }
 {
-    let judgement = match judge(alloc, group.profiles(), job) {
-        Ok(judgement) => judgement,
-        Err(error) => return Err(Why::Stopped(error)),
-    };
+    match judge(alloc, group.profiles(), job) {
+        Ok(judgement) => said_of(alloc, group, name, judgement),
+        Err(error) => Err(Why::Stopped(error)),
+    }
+}
+
+/// A judgement in numbers, with its sentence.
+fn said_of<A: Allocator + Copy>(
+    alloc: A,
+    group: &PrinterGroup<'_, A>,
+    name: &[u8],
+    judgement: Judgement,
+) -> Result<Judged<A>, Why>
+    ensures row { IfOk result (λ judged. judged.row ≡ judgement_row judgement) }
+    ensures text { IfOk result (λ judged. judged.text
+        ≡ job_sentence (reported group.now name.now (Ok judgement) None)) }
+    ensures stops { IfErr result IsStop }
+{
     match sentence(alloc, group, name, judgement) {
         Ok(text) => Ok(Judged {
             row: judgement_row(judgement),
@@ -71,7 +91,7 @@ fn judged_for<A: Allocator + Copy>(
 }
 
 /// Puts the sentence into a room, where there is one, and answers the number of the call.
-pub(crate) fn hand_out<A: Allocator>(
+pub(crate) fn tell_judged<A: Allocator>(
     judged: &Result<Judged<A>, Why>,
     row: &mut JudgementRow,
     refusal: &mut Refusal,

@@ -32,10 +32,10 @@ mod printers;
 mod profile_texts;
 mod rows;
 
-use crate::judging::judged;
+use crate::judging::{judge_job, tell_judged};
 use crate::nearby::near;
 use crate::page_count::page_count;
-use crate::profile_texts::{found, models, new_profile, tell_findings, tell_refusal};
+use crate::profile_texts::{lint, models, new_profile, tell_findings, tell_refusal};
 use device_profile::printer_name;
 pub use foreign_calls::VERSION;
 use foreign_calls::{
@@ -152,8 +152,8 @@ pub extern "C" fn web_lint(
         needed.old needed.new }
 {
     let heap = heap_over(memory);
-    let found = found(&heap, name, profile);
-    tell_findings(&found, faults, text, needed)
+    let told = lint(&heap, name, profile);
+    tell_findings(&told, faults, text, needed)
 }
 
 // ---- checks
@@ -184,8 +184,8 @@ pub extern "C" fn web_check(
         × (refusal.new ≡ refusal_by refusal.old judged)) }
 {
     let heap = heap_over(memory);
-    let judged = judged(&heap, profiles, lengths, is_each, name, job);
-    judging::hand_out(&judged, judgement, refusal, text, needed)
+    let told = judge_job(&heap, profiles, lengths, is_each, name, job);
+    tell_judged(&told, judgement, refusal, text, needed)
 }
 
 // ---- texts of a job

@@ -1,10 +1,11 @@
 //! Texts of profiles, and what is wrong with them.
 ghost use Rattle.std.specs.Prelude.{◌≡◌, ◌∷◌, [], IfErr, IfOk};
-ghost use Rattle.foreign_calls.specs.Answers.{IsStop};
+ghost use Rattle.foreign_calls.specs.Answers.{IsStop, refusal_by, work_number};
 ghost use Rattle.printer_models.specs.Listing.{models_text};
 ghost use Rattle.web_module.specs.ProfileTexts.{IsFound, IsLeft, IsNew, IsNoNew, IsUntold};
 ghost use Rattle.web_module.specs.ProfileTexts.{Refuses, why_no_new};
 
+use device_profile::Profile;
 use foreign_calls::{DONE, Refusal, Told, Why, put, read_printer};
 use printer_models::{NewError, PanelLists, models_text, new_text};
 use profile_lint::{Findings, NamedText, lint_texts};
@@ -80,7 +81,7 @@ impl<A: Allocator> Model for Found<A> {
 }
 
 /// What is found in the text of a profile under this name.
-pub(crate) fn found<A: Allocator + Copy>(
+pub(crate) fn lint<A: Allocator + Copy>(
     alloc: A,
     name: &[u8],
     profile: &[u8],
@@ -90,13 +91,13 @@ pub(crate) fn found<A: Allocator + Copy>(
     ensures untold { IfErr result IsUntold }
 {
     match str::from_utf8(name) {
-        Ok(word) => found_under(alloc, word, profile),
+        Ok(word) => lint_under(alloc, word, profile),
         Err(_) => Err(Why::NotText),
     }
 }
 
 /// The same, where the name is UTF-8.
-fn found_under<A: Allocator + Copy>(alloc: A, word: &str, profile: &[u8]) -> Result<Found<A>, Why>
+fn lint_under<A: Allocator + Copy>(alloc: A, word: &str, profile: &[u8]) -> Result<Found<A>, Why>
     ensures found { IfOk result
         (λ found. IsFound word.now profile.now found.lines found.has_faults) }
     ensures stops { IfErr result IsStop }
@@ -116,9 +117,20 @@ fn findings_in<A: Allocator + Copy>(
         (λ found. IsFound word.now profile.now found.lines.items found.has_faults) }
 {
     let text = Vec::from_slice(alloc, profile)?;
-    let mut texts = Vec::new(alloc);
-    texts.push(NamedText { word, text })?;
+    let texts = alone(alloc, NamedText { word, text })?;
     lint_texts(alloc, texts.as_slice())
+}
+
+/// A text by itself.
+fn alone<'w, A: Allocator>(
+    alloc: A,
+    named: NamedText<'w, A>,
+) -> Result<Vec<NamedText<'w, A>, A>, AllocError>
+    ensures { IfOk result (λ all. all.items ≡ named.entry ∷ []) }
+{
+    let mut all = Vec::new(alloc);
+    all.push(named)?;
+    Ok(all)
 }
 
 /// Puts what is found into a room, where it is known, and answers the number of the call.
@@ -150,7 +162,15 @@ pub(crate) fn tell_refusal<A: Allocator + Copy>(
 ) -> u32
     ensures { Refuses profile.now result refusal.old refusal.new }
 {
-    match read_printer(alloc, profile, 1) {
+    let work = read_printer(alloc, profile, 1);
+    leave(&work, refusal)
+}
+
+fn leave<A: Allocator>(work: &Result<Profile<A>, Why>, refusal: &mut Refusal) -> u32
+    ensures number { result ≡ work_number work.now }
+    ensures refusal { refusal.new ≡ refusal_by refusal.old work.now }
+{
+    match work {
         Ok(_) => DONE,
         Err(why) => {
             why.tell(refusal);

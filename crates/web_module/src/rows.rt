@@ -3,7 +3,7 @@ ghost use Rattle.std.specs.Prelude.{◌≡◌};
 ghost use Rattle.web_module.specs.Judgements.{judgement_row, kind_number, placed_number};
 ghost use Rattle.web_module.specs.Judgements.{told_kind};
 
-use foreign_calls::{VerdictRow, verdict_row};
+use foreign_calls::verdict_row;
 use job_reports::{Kind, kind_of};
 use preflight::{FailingItem, Judgement, SheetSpot, Verdict};
 
@@ -38,23 +38,17 @@ pub struct JudgementRow {
 pub(crate) fn judgement_row(judgement: Judgement) -> JudgementRow
     ensures { result ≡ judgement_row judgement }
 {
-    let VerdictRow {
-        pages,
-        marks,
-        place,
-        printer,
-        number,
-    } = verdict_row(judgement.verdict);
+    let row = verdict_row(judgement.verdict);
     let spot = judgement.cursor.unwrap_or(SheetSpot { x: 0, y: 0 });
     JudgementRow {
-        pages,
-        marks,
-        place,
-        printer,
+        pages: row.pages,
+        marks: row.marks,
+        place: row.place,
+        printer: row.printer,
         page: judgement.page.unwrap_or(0),
         x: spot.x,
         y: spot.y,
-        number,
+        number: row.number,
         kind: told_kind(judgement.verdict, judgement.failing_item),
         is_placed: placed_number(judgement.cursor),
     }

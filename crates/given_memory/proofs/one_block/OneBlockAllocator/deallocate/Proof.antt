@@ -33,9 +33,13 @@ deallocate_spec 𝓤 𝓛 𝓜 𝓡 wired =
     let fn : Fn = compiled.function in
     let ps = En₀.signature.params in
     let ks = En₀.kept in
-    let stays : Stays ps ks =
-    (stay_dropped (slot_at 0 ps) ks.0, (stay_dropped (slot_at 1 ps) ks.1.0,
-    (stay_dropped (slot_at 2 ps) ks.1.1.0, (stay_dropped (slot_at 3 ps) ks.1.1.1.0, tt)))) in
+    let stays : Stays ps ks = (
+      stay_dropped (slot_at 0 ps) ks.0,
+      (
+        stay_dropped (slot_at 1 ps) ks.1.0,
+        (stay_dropped (slot_at 2 ps) ks.1.1.0, (stay_dropped (slot_at 3 ps) ks.1.1.1.0, tt)),
+      ),
+    ) in
     let go₀ = Goes-dropped 𝓛 1 (slot_at 0 ps) ks.0 (λ κs x f. refl) in
     let go₁ = Goes-dropped 𝓛 1 (slot_at 1 ps) ks.1.0 (λ κs x f. refl) in
     let go₂ = Goes-dropped 𝓛 1 (slot_at 2 ps) ks.1.1.0 (λ κs x f. refl) in
@@ -57,8 +61,13 @@ deallocate_spec 𝓤 𝓛 𝓜 𝓡 wired =
     regoal ! (λ (us : List Val). prop (WpFn 𝓤 H C Λ fn us Post))
     (λ i. are.0.0 i ++ (are.1.0 i ++ (are.1.1.0.0 i ++ (are.1.1.1.0.0 i ++ [])))) refl $
     enter ! C Λ fn (me ∷ ptr_val from ∷ vint w64 n ∷ vint w64 al ∷ []) Post $
-    alloc_all ! (λ l. pass_all ! refl ((tt, tt), (ptr_typed from,
-    ((tt, record { fits = are.1.1.0.1 }), ((tt, record { fits = are.1.1.1.0.1 }), tt)))) $
+    alloc_all ! (λ l. pass_all ! refl (
+      (tt, tt),
+      (
+        ptr_typed from,
+        ((tt, record { fits = are.1.1.0.1 }), ((tt, record { fits = are.1.1.1.0.1 }), tt)),
+      ),
+    ) $
     sets ! (of_opd ! (unit_lit !)) refl (tt, tt) $
     returns ! (look_at ! 0 refl) $ free_all ! refl $
     feq_i ! (List Val) (vunit ∷ []) (vunit ∷ []) refl $ nothing ! $ nothing ! $ nothing ! $ fjoin ! $ nothing ! $ fjoin ! $
