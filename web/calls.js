@@ -38,6 +38,9 @@ const MOST_MEMORY = 4096 * MEGABYTE - PAGE;
 /** @param {number} n */
 const aligned = (n) => Math.ceil(n / 16) * 16;
 
+/** @param {number[]} sizes */
+const sumOf = (sizes) => sizes.reduce((sum, size) => sum + size, 0);
+
 /** @param {Given} given */
 function sizeOf(given) {
   if (typeof given === "number" || typeof given === "boolean") {
@@ -164,8 +167,8 @@ export class Instance {
    * @returns {Answer | null}
    */
   run(call, work, room) {
-    const given = call.given.reduce((sum, one) => sum + sizeOf(one), 0);
-    const rows = call.rows.reduce((sum, row) => sum + aligned(rowSize(row)), 0);
+    const given = sumOf(call.given.map(sizeOf));
+    const rows = sumOf(call.rows.map((row) => aligned(rowSize(row))));
     if (!this.reaches(this.begin + given + rows + work + room + 64)) {
       return null;
     }
