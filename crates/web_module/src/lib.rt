@@ -27,14 +27,14 @@ ghost use Rattle.web_module.specs.ProfileTexts.{IsNew, IsNoNew, Lints, Refuses};
 
 mod judging;
 mod nearby;
-mod page_count;
+mod page_counts;
 mod printers;
 mod profile_texts;
 mod rows;
 
 use crate::judging::{judge_job, tell_judged};
 use crate::nearby::near;
-use crate::page_count::page_count;
+use crate::page_counts::page_count;
 use crate::profile_texts::{lint, models, new_profile, tell_findings, tell_refusal};
 use device_profile::printer_name;
 pub use foreign_calls::VERSION;
