@@ -8,7 +8,7 @@ use base.Logic.{ent, sep, wand, id⊢}
 use base.Fml.{ftrue, froom}
 use prog.Memory.{size, align, capped}
 use prog.Align.{Dv, align_w, align-bytes}
-use prog.Capped.{capped_is}
+use prog.Capped.{capped_is, capped_small}
 use types.Logic.{Logic, sem}
 use types.Kit.{Item, Goal, Seq, ‵, raw, ◌⊛◌, ◌$◌, ◌∵◌, !, qed, move, drop, use1, split, frame, fsplit, fpick, feq_l, done}
 use types.Match.{live}
@@ -40,6 +40,7 @@ pub hands_out : {M : Type 1} {𝓤 : Ura M} (𝓛 : Logic 𝓤) (τ : Ty) (b o m
     → capped (align τ) ≡ a → n ≤ m → m % 16 ≡ 0 → n < 2 ^ 63 → a ≤ 16
     → ent 𝓤 (sem 𝓛 (bytes_at (block_ptr b o) m)) (sep 𝓤 (𝓛.H.room τ b o) (sem 𝓛 ftrue))
 hands_out {𝓤 = 𝓤} 𝓛 τ b o m n a sized aligned holds whole small slim =
+    let bounded : size τ < 2 ^ 63 = capped_small (size τ) (omega arith) in
     let same : n ≡ size τ = sym sized ∙ capped_is (size τ) (omega arith) in
     let short = subst (λ (k : ℕ). k ≤ m) same holds in
     let divides = subst (λ (k : ℕ). Dv k 16) (sym (align-bytes τ)) (divides_16 (align_w τ)) in

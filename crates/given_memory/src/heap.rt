@@ -12,7 +12,8 @@ const ROUNDING: usize = 8192;
 
 /// An allocator over memory. Where that is too small it refuses all requests.
 pub fn heap_over(memory: GivenMemory) -> Heap {
-    let most = memory.size().saturating_sub(ROUNDING);
+    let (size, memory) = memory.with_size();
+    let most = size.saturating_sub(ROUNDING);
     let heap = Bump::new(OneBlock::new(memory));
     // The first block is nearly all, and is freed at once: so there is one piece of memory, from
     // which all other blocks come.

@@ -23,9 +23,12 @@ impl Model for GivenMemory {
 }
 
 impl GivenMemory {
-    /// How many bytes it has.
-    pub fn size(&self) -> usize {
-        self.size
+    /// How many bytes it has, and the memory again.
+    pub(crate) fn with_size(self) -> (usize, GivenMemory)
+        ensures { (result.0 ≡ self.size) × (result.1 ≡ self) }
+    {
+        let GivenMemory { at, size } = self;
+        (size, GivenMemory { at, size })
     }
 }
 
@@ -51,8 +54,8 @@ impl OneBlock {
         if align > UNIT || size > isize::MAX as usize {
             return None;
         }
-        let memory = self.left.replace(None)?;
-        if memory.size < size || memory.size % UNIT != 0 {
+        let (whole, memory) = self.left.replace(None)?.with_size();
+        if whole < size || whole % UNIT != 0 {
             return None;
         }
         Some(memory)
