@@ -1,5 +1,5 @@
 //! The items of a job near a place.
-ghost use Rattle.std.specs.Prelude.{◌≡◌, IfErr, IfOk};
+ghost use Rattle.std.specs.Prelude.{IfErr, IfOk};
 ghost use Rattle.foreign_calls.specs.Answers.{IsStop};
 ghost use Rattle.web_module.specs.Nearby.{IsNearby};
 

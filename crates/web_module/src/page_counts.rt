@@ -1,5 +1,5 @@
 //! How many pages a job has.
-ghost use Rattle.std.specs.Prelude.{◌≡◌, IfErr, IfOk};
+ghost use Rattle.std.specs.Prelude.{IfErr, IfOk};
 ghost use Rattle.web_module.specs.PageCounts.{IsPageCount, MayCount};
 
 use foreign_calls::{OneText, Told, Why};
