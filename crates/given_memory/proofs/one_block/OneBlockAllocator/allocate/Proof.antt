@@ -80,8 +80,8 @@ allocate_spec 𝓤 𝓛 𝓜 𝓡 wired =
     await ! tt $ pick ! (λ x. split ! $ move ! (1 ∷ []) $ pick ! (λ _. split ! $ drop ! $
     heard ! (Told n al x) (λ said. split ! $ move ! (1 ∷ []) $
     taken ! n al x v said
-    (λ b o m holds whole fits small slim e. let p : Ptr = block_ptr b o in
-    use1 𝓛 (‵ (froom τ b o) ⊛ ‵ ftrue) (hands_out 𝓛 τ b o m n al asked.0 asked.1 holds whole small slim) $
+    (λ b o m holds even fits small slim e. let p : Ptr = block_ptr b o in
+    use1 𝓛 (‵ (froom τ b o) ⊛ ‵ ftrue) (hands_out 𝓛 τ b o m n al asked.0 asked.1 holds even small slim) $
     lands_as ! (e) refl (tt, (record { fits = lit< tt }, ((tt, (record { fits = fits }, tt)), tt))) $
     first ! $ switches_on ! (get_tag ! (vrt ! refl (fld ! refl (stop !))) (whole !)) $
     exec ! C Λ En (arm_body 0 (head (after 1 fn.body))) (then_runs 𝓛 C Λ En (after 2 fn.body) (at_ret En Post)) $
