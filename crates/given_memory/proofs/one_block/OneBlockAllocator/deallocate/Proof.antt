@@ -5,12 +5,12 @@ use mir.Val.{Val, vint, vptr, vunit}
 use base.Logic.{SProp}
 use base.Fml.{ftrue}
 use prog.Memory.{size, align, capped}
-use prog.Wp.{Env, WpFn}
+use prog.Wp.{WpFn}
 use contract.Monad.{fact}
 use contract.Running.{tables}
-use types.Kit.{‵, raw, ◌⊛◌, prop, ◌$◌, ◌∵◌, !, qed, by, move, keep, drop, split, regoal, fjoin, feq_i}
+use types.Kit.{‵, raw, ◌⊛◌, prop, ◌$◌, ◌∵◌, !, qed, by, move, keep, split, regoal, fjoin, feq_i}
 use types.Run.{unit_lit, of_opd, returns, enter}
-use types.ByLocal.{alloc_all, pass_all, free_all, look_at, sets, env}
+use types.ByLocal.{alloc_all, pass_all, free_all, look_at, sets}
 use denote.RattleType.{owns}
 use denote.RawPtr.{ptr_val, room_for}
 use denote.Signature.{types_at}
