@@ -1,3 +1,3 @@
 mod Cutting
-mod Judging
+mod JudgementFacts
 mod NewTexts

@@ -1,6 +1,6 @@
 use Rattle.std.proofs.Common.{inr}
 use Rattle.web_module.specs.Printers.{texts_of}
-use Rattle.web_module.proofs.Judging.{judged_of, stops_unjudged}
+use Rattle.web_module.proofs.JudgementFacts.{judged_of, stops_unjudged}
 use Rattle.web_module.proofs.judging.judge_job.Goals as goal
 
 pub returns-in-Ok-clause-judged : goal.returns-in-Ok-clause-judged
