@@ -60,8 +60,8 @@ import { DONE, makeCall } from "./calls.js";
 /** Why a call hands out nothing. */
 export class Failure extends Error {
   /**
-   * @param {string} name Memory, Long, NoPrinter, Stopped, Refused, NotAllowed, NoField, NoPage or
-   *   Unknown
+   * @param {string} name Memory, Long, NoPrinter, Stopped, Refused, NotAllowed, NoField, NoPage,
+   *   Unknown or Items
    * @param {string} message
    * @param {{ printer: number, line: number, cause: string } | null} refused the profile that is
    *   refused, by its number from 1
@@ -86,6 +86,8 @@ const FAILURES = [
   ["NoField", "a value is chosen for what is no field of the panel"],
   ["NoPage", "the job does not have this page"],
   ["Unknown", "nothing has this name"],
+  // No text of a profile limits the items of macros, so this does not come.
+  ["Items", "macros carry out too many items"],
 ];
 
 const CAUSES = ["", "Version", "Unknown", "Repeated", "Range", "Missing", "NoGeometry"];
