@@ -1,6 +1,6 @@
 //! The documents of jobs that are checked, each a file in a folder.
-ghost use Rattle.std.specs.Prelude.{◌≡◌, ◌⊎◌, ◌&&◌, ◌∷◌, ◌++◌, [], IfNone, IfOk, IfSome};
-ghost use Rattle.std.specs.Prelude.{IsFalse, List, ℕ};
+ghost use Rattle.std.specs.Prelude.{◌≡◌, ◌<◌, ◌⊎◌, ◌&&◌, ◌∷◌, ◌++◌, [], IfNone, IfOk, IfSome};
+ghost use Rattle.std.specs.Prelude.{IsFalse, List, length, ℕ};
 ghost use Rattle.std.specs.Prelude.{MatchOption, None, OnOk, Some, map, option_map};
 ghost use Rattle.job_rows.specs.Links.{document_path};
 ghost use Rattle.many_jobs.specs.Asked.{asked_for};
@@ -81,7 +81,9 @@ fn ends_in_pdf(job: &[u8]) -> bool
 
 /// The first job, and those behind it.
 fn cut_job<'j, 'n>(jobs: &'j [&'n [u8]]) -> Option<(&'n [u8], &'j [&'n [u8]])>
-    ensures { MatchOption result (jobs.now ≡ []) (λ cut. jobs.now ≡ cut.0 ∷ cut.1.now) }
+    ensures cut { MatchOption result (jobs.now ≡ [])
+        (λ cut. jobs.now ≡ cut.0 ∷ cut.1.now) }
+    ensures shorter { IfSome result (λ cut. length cut.1.now < length jobs.now) }
 {
     match jobs {
         [] => None,
