@@ -4,8 +4,8 @@ use Rattle.job_rows.proofs.links.last_part.Goals as goal
 
 pub loop-first-preserved : goal.loop-first-preserved
 loop-first-preserved c =
-    ap (λ (part : List ℕ). behind_slash part c.in-Some.behind.now) c.later_part.ensures
-    ∙ sym (ap (behind_slash c.loop-first.part) c.in-Some.ensures.cut) ∙ c.loop-first.invariant
+    ap (λ (part : List ℕ). behind_slash part c.in-Some.behind.now) c.later_part-part.ensures
+    ∙ sym (ap (behind_slash c.loop-first.part.now) c.in-Some.ensures.cut) ∙ c.loop-first.invariant
 
 pub returns : goal.returns
-returns c = sym (ap (behind_slash c.loop-first.part) c.in-None.ensures.cut) ∙ c.loop-first.invariant
+returns c = sym (ap (behind_slash c.loop-first.part.now) c.in_default.ensures.cut) ∙ c.loop-first.invariant

@@ -12,13 +12,13 @@ module _ {X : Type 0} (name : X → List ℕ) (rest behind : List X) (job : X) (
 
 pub loop-job-preserved : goal.loop-job-preserved
 loop-job-preserved c =
-    sym (by_first (λ job. job.now) c.loop-job.rest c.in-Some.behind.now c.in-Some.job c.in-Some.ensures.cut false
+    sym (by_first (λ job. job.now) c.loop-job.rest.now c.in-Some.behind.now c.in-Some.job c.in-Some.ensures.cut false
     (sym c.is_taken.ensures ∙ c.if-is_taken.false)) ∙ c.loop-job.invariant
 
 pub returns-then-is_taken : goal.returns-then-is_taken
 returns-then-is_taken c =
-    sym (by_first (λ job. job.now) c.loop-job.rest c.in-Some.behind.now c.in-Some.job c.in-Some.ensures.cut true
+    sym (by_first (λ job. job.now) c.loop-job.rest.now c.in-Some.behind.now c.in-Some.job c.in-Some.ensures.cut true
     (sym c.is_taken.ensures ∙ c.if-is_taken.true)) ∙ c.loop-job.invariant
 
 pub returns : goal.returns
-returns c = sym (ap (λ jobs. same_named (map (λ job. job.now) jobs)) c.in-None.ensures.cut) ∙ c.loop-job.invariant
+returns c = sym (ap (λ jobs. same_named (map (λ job. job.now) jobs)) c.in_default.ensures.cut) ∙ c.loop-job.invariant
