@@ -73,10 +73,7 @@ fn is_taken(job: &[u8], behind: &[&[u8]]) -> bool
 fn ends_in_pdf(job: &[u8]) -> bool
     ensures { result ≡ ends_in_pdf job.now }
 {
-    if job.len() < 4 {
-        return false;
-    }
-    &job[job.len() - 4..] == b".pdf".as_slice()
+    job.ends_with(b".pdf")
 }
 
 /// The first job, and those behind it.
