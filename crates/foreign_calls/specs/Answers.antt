@@ -1,6 +1,6 @@
 -- The numbers that calls answer, and what they leave in the rooms of their callers.
-use Rattle.std.specs.Prelude.{◌≡◌, ℕ, ◌++◌, List, drop, length, nat_le, if◌then◌else◌, Option, None, Some, Result, Ok, Err}
-use Rattle.std.specs.Prelude.{IfOk, IfErr, ⊤}
+use Rattle.std.specs.Prelude.{◌≡◌, ℕ, ◌++◌, List, drop, length, nat_le, if◌then◌else◌, Option, None, Some}
+use Rattle.std.specs.Prelude.{Result, Ok, Err, IfOk, IfErr, ⊤}
 use Rattle.device_profile.specs.declared.fault.Cause.{Cause}
 use Rattle.device_profile.specs.declared.fault.Cause.TheVariants.{Version, Unknown, Repeated, Range, Missing}
 use Rattle.device_profile.specs.declared.fault.Cause.TheVariants.{NoGeometry}
