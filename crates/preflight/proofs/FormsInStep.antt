@@ -28,7 +28,7 @@ use Rattle.preflight.specs.Carriers.Each.{Each}
 use Rattle.preflight.specs.Carriers.FleetMode.{others_in, IsFormed, GoesAsOne}
 use Rattle.preflight.specs.Carriers.FormsInStep.{FirstForms, FirstKeeps, FirstMeasures}
 use Rattle.preflight.specs.Carriers.Lockstep.{Execute, Does}
-use Rattle.preflight.proofs.FleetModes.{all_do, none_asks, still_formed}
+use Rattle.preflight.proofs.FleetModes.{all_do, none_asks}
 
 -- it asks nothing of the device
 form_asks : (form : Form) (p q : Printer) (n : Amount) → command_asks_alike p q (command_of form) n ≡ true
@@ -71,9 +71,6 @@ module _ (law : (item : Entry) → RunsOnLike item) (command : Command) (n : Amo
 
   pub all_form : Each (Does (Execute item) events) (first ∷ others_in fleet_mode first others) (first' ∷ others_in fleet_mode first' others)
   all_form = all_do law item events first first' first_does fleet_mode others formed (as_one fleet_mode together)
-
-  pub formed_still : IsFormed fleet_mode first' others
-  formed_still = still_formed law item events first first' first_does fleet_mode others formed (as_one fleet_mode together)
 
 -- what moves and rectangles take stays what it is
 pub forms_kept : (bounds : FormBounds) (old new : List MachineState) → FirstKeeps old new → FirstForms bounds old → FirstForms bounds new

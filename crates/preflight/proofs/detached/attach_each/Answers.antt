@@ -1,4 +1,5 @@
-use Rattle.std.proofs.Common.{◌≡◌, ◌+◌, ◌∙◌, List, [], ◌∷◌, ◌++◌, append-nil, ap, arith, drop, length-append, reverse, sym}
+use Rattle.std.proofs.Common.{◌≡◌, ◌+◌, ◌∙◌, List, [], ◌∷◌, ◌++◌, append-nil, ap, arith, drop, length, length-append}
+use Rattle.std.proofs.Common.{reverse, sym}
 use Rattle.std.proofs.lemmas.List.{at_drop_all}
 use Rattle.device_profile.specs.Printer.{Printer}
 use Rattle.page_machine.specs.Detached.{DetachedState}
@@ -14,8 +15,8 @@ loop-profile-init g c = (
       c.in_ok-machines.ensures.items,
 )
 
-pub prove-unreachable-requires : goal.prove-unreachable-requires
-prove-unreachable-requires g c =
+pub unreachable-requires : goal.unreachable-requires
+unreachable-requires g c =
     omega (arith, c.in_default.ensures.cases, c.loop-profile.left.ok.0, c.loop-profile.invariant.0, c.loop-profile-test.true)
 
 pub loop-profile-preserved : goal.loop-profile-preserved

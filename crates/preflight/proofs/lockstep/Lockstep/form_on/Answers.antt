@@ -4,16 +4,8 @@ use Rattle.page_machine.specs.Event.{Marked}
 use Rattle.preflight.specs.Carriers.FleetMode.{others_in}
 use Rattle.preflight.specs.Carriers.FormsInStep.{FirstForms, FirstKeeps}
 use Rattle.preflight.specs.Carriers.Lockstep.{AreRunning, Execute, Fleet, GoesAlike}
-use Rattle.preflight.proofs.FormsInStep.{all_form, formed_still}
+use Rattle.preflight.proofs.FormsInStep.{all_form}
 use Rattle.preflight.proofs.lockstep.Lockstep.form_on.Goals as goal
-
-pub invariant_of-self : goal.invariant_of-self
-invariant_of-self g c = λ runs.
-    let before = c.self.inside in
-    let running = (subst (λ (f : Fleet). AreRunning f.machines) (sym c.self.view_is) c.requires.running).0 in
-    let forms = subst (λ (f : Fleet). FirstForms c.args.bounds.now f.machines) (sym c.self.view_is) c.requires.known in
-    formed_still c.items_run_on_like_printers.ensures c.args.command (amount c.args.n) c.in-Some.marks before.fleet_mode before.first
-    c.form_on.new.self before.others.items running (c.self.invariant running) c.in-Alone.is forms.1 (c.in-Some.ensures.formed forms.0)
 
 pub returns : goal.returns
 returns g c =
