@@ -1,8 +1,9 @@
 /* Calls that fail where they are told to, for hostile.py, which loads them by LD_PRELOAD.
 
-   FAIL_MARK     a file that gets one byte when this is loaded, one at each call that fails, and
-                 one at the first that is cut short
+   FAIL_MARK     a file that gets one byte when this is loaded, one at each call that fails, one at
+                 the first that is cut short, and one when a file takes the place of another
    FAIL_READ     the path of a file; its reads give FAIL_AT bytes and then fail
+   FAIL_THEN     the path of a file that takes the place of that one once its bytes were read
    FAIL_WRITE    a path, or the number of a descriptor; its writes take FAIL_AT bytes and then fail
    FAIL_AT       how many bytes go before the failure
    FAIL_ERRNO    the number of the error
@@ -14,6 +15,7 @@
 #include <dlfcn.h>
 #include <errno.h>
 #include <fcntl.h>
+#include <stdio.h>
 #include <stdlib.h>
 #include <string.h>
 #include <sys/stat.h>
@@ -21,7 +23,7 @@
 #include <sys/uio.h>
 #include <unistd.h>
 
-static const char *mark_path, *read_path, *write_path;
+static const char *mark_path, *read_path, *then_path, *write_path;
 static long fail_at, piece, request, requests, is_armed, fails_on, was_cut, error_number;
 static long bytes_read, bytes_written;
 
@@ -45,6 +47,7 @@ static long number_in(const char *name, long otherwise) {
 __attribute__((constructor)) static void begin(void) {
     mark_path = getenv("FAIL_MARK");
     read_path = getenv("FAIL_READ");
+    then_path = getenv("FAIL_THEN");
     write_path = getenv("FAIL_WRITE");
     fail_at = number_in("FAIL_AT", 0);
     error_number = number_in("FAIL_ERRNO", EIO);
@@ -84,6 +87,15 @@ static long allowed(size_t count, long gone) {
     return (long)count < left ? (long)count : left;
 }
 
+/* Where all bytes of the file were read another one takes its place, once. */
+static void replace_read(int file) {
+    struct stat read_file;
+    if (then_path == NULL || fstat(file, &read_file) != 0 || bytes_read < read_file.st_size) return;
+    mark();
+    rename(then_path, read_path);
+    then_path = NULL;
+}
+
 ssize_t read(int file, void *bytes, size_t count) {
     ssize_t (*next)(int, void *, size_t) = dlsym(RTLD_NEXT, "read");
     long most, done;
@@ -92,6 +104,7 @@ ssize_t read(int file, void *bytes, size_t count) {
     if (most < 0) return -1;
     done = next(file, bytes, (size_t)most);
     if (done > 0) bytes_read += done;
+    replace_read(file);
     return done;
 }
 

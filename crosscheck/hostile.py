@@ -23,13 +23,14 @@ import hostile_outs                                                # noqa: E402
 import hostile_pdfs                                                # noqa: E402
 import hostile_profiles                                            # noqa: E402
 import hostile_reads                                               # noqa: E402
+import hostile_texts                                               # noqa: E402
 import hostile_words                                               # noqa: E402
 import hostile_writes                                              # noqa: E402
 from hostile_base import Shim, Tries                               # noqa: E402
 from hostile_jobs import check_jobs                                # noqa: E402
 
 PARTS = (hostile_reads, hostile_writes, hostile_outs, hostile_words, hostile_limits, hostile_many,
-         hostile_documents, hostile_pdfs, hostile_profiles, hostile_compares)
+         hostile_documents, hostile_pdfs, hostile_texts, hostile_profiles, hostile_compares)
 
 
 def try_part(task: Tuple[str, int]) -> Tuple[List[str], int, int]:

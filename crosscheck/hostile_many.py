@@ -55,6 +55,15 @@ FORMS = (
      "{}: this job cannot be read (ERROR read)\n"),
     (("--format=json", "--explain"), '{{"error":"memory","job":"{}","verdict":"ERROR"}}\n',
      '{{"error":"read","job":"{}","verdict":"ERROR"}}\n'),
+    (("--notes",), "ERROR memory {}\n", "ERROR read {}\n"),
+)
+# Forms whose writes fail, between how many bytes, and what is told then.
+WRITTEN = (
+    ((), 1, WRITE),
+    (("--each", "--notes"), 13, WRITE),
+    (("--format=words", "--each", "--explain"), 31,
+     b"standard output cannot be written (ERROR write)\n"),
+    (("--format=json", "--each", "--explain", "--notes"), 31, WRITE),
 )
 
 
@@ -66,8 +75,9 @@ def requests_refused(tries: Tries, shim: Shim) -> None:
         return
     for form, *instead in FORMS:
         texts = [tries.run(["check", *PRINTERS, *form, name]).output for name in NAMES]
-        others = [[told.format(name).encode() for told in instead[:2 if name == "gone" else 1]]
-                  for name in NAMES]
+        others = [instead_of(text, [told.format(name).encode() for told in
+                                    instead[:2 if name == "gone" else 1]])
+                  for name, text in zip(NAMES, texts)]
         told = 0
         for way in ({}, {"on": 1}):
             for number in range(1, 5000):
@@ -81,13 +91,26 @@ def requests_refused(tries: Tries, shim: Shim) -> None:
         tries.require(told > 1, f"{form} jobs that tell it", f"{told}")
 
 
+def instead_of(text: bytes, told: List[bytes]) -> List[bytes]:
+    """What may stand in place of a job's text: what is told of it, or its verdict and that."""
+    verdict = verdict_before_notes(text)
+    return told + ([verdict + line for line in told] if verdict else [])
+
+
+def verdict_before_notes(text: bytes) -> bytes:
+    """The line of a job that passes and has notes; nothing of any other."""
+    verdict, *notes = text.splitlines(keepends=True)
+    return verdict if verdict.startswith(b"PASS") and notes else b""
+
+
 def is_right_without(run: Run, texts: List[bytes], others: List[List[bytes]]) -> bool:
     """Whether a run is right that was refused a request: it stopped behind whole texts that are
-    due, or one of its jobs tells the refusal, or lacks what the system says."""
+    due, or before notes, or one of its jobs tells the refusal, or lacks what the system says."""
     if run.status != STOPPED or run.errors not in (b"", MEMORY):
         return False
     if run.errors == MEMORY:
-        return any(run.output == b"".join(texts[:count]) for count in range(len(texts)))
+        return any(run.output == b"".join(texts[:count]) + end for count, text in enumerate(texts)
+                   for end in (b"", verdict_before_notes(text)))
     return run.output == b"".join(texts) or any(
         run.output == b"".join([*texts[:place], other, *texts[place + 1:]])
         for place in range(len(texts)) for other in others[place])
@@ -111,10 +134,12 @@ def writes_that_fail(tries: Tries, shim: Shim) -> None:
     if shim.missing:
         tries.skip("writes that fail", shim.missing)
         return
-    whole_text = b"".join(LINES)
-    for count in range(len(whole_text)):
-        shim.try_(f"{count} bytes go", ASKED, Due((STOPPED,), exactly(whole_text[:count]),
-                  exactly(WRITE)), write=1, at=count, errno=errno.ENOSPC)
+    for form, step, line in WRITTEN:
+        words = [*ASKED, *form]
+        text = tries.run(words).output
+        for count in range(0, len(text), step):
+            shim.try_(f"{form} {count} bytes go", words, Due((STOPPED,), exactly(text[:count]),
+                      exactly(line)), write=1, at=count, errno=errno.ENOSPC)
 
 
 def streams(tries: Tries) -> None:

@@ -10,15 +10,42 @@ import time
 from dataclasses import replace
 from typing import Callable, Iterable, List
 
-from hostile_base import (COMMANDS, FIRST_BESIDE, NOTHING, READ, SECONDS, TELLING, WITH_OUT,
-                          WITH_PROFILE, Due, Run, Shim, Tries, asked, due_of, exactly, front_of,
-                          stopped_by, text_of, whole)
+from hostile_base import (COMMANDS, FIRST_BESIDE, NOTHING, READ, SECONDS, STOPPED, TELLING,
+                          WITH_OUT, WITH_PROFILE, Due, Run, Shim, Tries, asked, due_of, exactly,
+                          front_of, stopped_by, text_of, whole)
 from hostile_jobs import (BAD, FAULT, GOOD, UNPINNABLE, cuts, decided, long_job, put_files,
                           told_before)
 from samples import SAMPLE_B
 
 UNREADABLE = ("directory", "/proc/self/mem", "none", "", "loop")
 PIECES = (1, 7, 4095, 4096, 4097)
+# Fronts of jobs, how many items each decides, and whether a fault is decided behind these.
+FRONTS = (
+    # Letters are decided by what ends the command, and not by white space.
+    (b"\x1b%0BIN", 1, False), (b"\x1b%0BIN ", 1, False), (b"\x1b%0BIN;", 2, False),
+    (b"\x1b%0BIN,", 1, True), (b"\x1b%0BSP1", 1, False), (b"\x1b%0BSP1;", 2, False),
+    # A pair is decided by the byte behind its second number, whatever it is.
+    (b"\x1b%0BPA1,2", 1, False), (b"\x1b%0BPA1,2 ", 2, False), (b"\x1b%0BPA1,2:", 2, True),
+    # Faults are decided by the byte at which they stand first.
+    (b"\x1b%0BL", 1, False), (b"\x1b%0BLT", 1, True), (b"\x1b%0BPA8388608", 1, False),
+    (b"\x1b%0BPA8388608,", 1, True),
+    # In the other language each command of a combined sequence is decided by its letter.
+    (b"\x1b%0B\x1b%0A\x1b&l2", 2, False), (b"\x1b%0B\x1b%0A\x1b&l2a", 3, False),
+    # A line that is none is decided by its newline, and not before.
+    (b"\x1b%-12345X@XYZ", 1, False), (b"\x1b%-12345X@XYZ\n", 1, True),
+)
+# Jobs that fail for the printers of these words, of which a sentence tells the item, the page, the
+# cursor and the font.
+FAILING = (
+    (b"\x1bE\x1b&f1S\x1bE", ("@B",)), (b"\x1bE\x1b&l2a9O\x0c", ("@B",)),
+    (b"\x1bE\x1b&l2a1.5o1X", ("@B",)), (b"\x1bE\x1b*b3Wabc\x1bE", ("@B",)),
+    (b"\x1bE\x1b%0BSP1PD5,5,-1,7;", ("@B",)), (b"\x1bE\x1b%0BPD;", ("@B",)),
+    (b"\x1bEA", ("@B", "@D")), (b"\x1bE\x0cA", ("@B", "@D")), (b"\x1bE\x01", ("@B",)),
+    (b"\x1bE\x1b&f1", ("@B",)), (b"\x1bE\x1b&f0X", ("@B",)), (b"\x1bE\x0c\x1b&f1S", ("@B",)),
+    (b"\x1b&f0X\x0c\x1b*p9999X\x1b&f1X\x1b&f2X", ("@B", "@D")),
+    (b"\x1b&l2A\x1b*p300x300Y\x1b&f1S", ("@B",)),
+    (b"\x1b&l2A\x1b(0N\x1b(s1p10v0s0b4101TA", ("@B",)),
+)
 
 
 def job_reads_that_fail(tries: Tries, shim: Shim) -> None:
@@ -56,6 +83,36 @@ def reads_behind_a_verdict(tries: Tries, shim: Shim) -> None:
         tries.compare(f"{command}, EIO behind 8192 bytes", run, due_of(whole(command, job)))
         shim.try_(f"{command}, EIO behind 4096 bytes", asked(command, "job"),
                   due_of(told_before(command, job, 4096)), read="job", at=4096, errno=errno.EIO)
+
+
+def fronts_that_decide(tries: Tries, shim: Shim) -> None:
+    """Each item of a job, and a fault, is told once the bytes before a failing read decide it."""
+    tries.kind = "fronts of JOB"
+    if shim.missing:
+        tries.skip("fronts of jobs", shim.missing)
+        return
+    for front, count, is_fault in FRONTS:
+        tries.put("job", front)
+        run = shim.run(asked("list", "job"), read="job", at=len(front), errno=errno.EIO)
+        told = (run.status, run.errors, run.output.count(b"\n"), b" FAULT " in run.output)
+        due = (1, b"", count + 1, True) if is_fault else (STOPPED, READ, count, False)
+        tries.require(told == due, f"{front!r}", f"{run}, due {due}")
+
+
+def sentences_in_pieces(tries: Tries, shim: Shim) -> None:
+    """However its bytes come, the same sentence is told of a job that fails."""
+    tries.kind = "sentences of JOB in pieces"
+    if shim.missing:
+        tries.skip("reads that are cut short", shim.missing)
+        return
+    for job, printers in FAILING:
+        tries.put("job", job)
+        words = ["check", "--format=words", "job", *printers]
+        whole = tries.run(words)
+        tries.require(whole.status == 1, f"{job!r}", f"{whole}")
+        for size in range(1, len(job)):
+            shim.try_(f"{job!r}, pieces of {size}", words, Due((1,), exactly(whole.output)),
+                      read="job", piece=size)
 
 
 def jobs_that_cannot_be_read(tries: Tries) -> None:
@@ -324,6 +381,8 @@ def try_all(tries: Tries, shim: Shim) -> None:
     put_files(tries)
     job_reads_that_fail(tries, shim)
     reads_behind_a_verdict(tries, shim)
+    fronts_that_decide(tries, shim)
+    sentences_in_pieces(tries, shim)
     jobs_that_cannot_be_read(tries)
     profiles_that_cannot_be_read(tries, shim)
     jobs_in_pieces(tries)

@@ -1,10 +1,13 @@
-"""Runs the worked examples against the oracle alone: `python3 crosscheck/rows.py`."""
+"""Runs the worked examples, and the rows of verdicts, against the oracle alone:
+`python3 crosscheck/rows.py`."""
 
 import sys
+from typing import Iterator, List, Tuple
 
 sys.dont_write_bytecode = True
 
 import oracle                                                      # noqa: E402
+import verdicts                                                    # noqa: E402
 from examples import TABLES, profile_text, unescape                # noqa: E402
 
 PAGE_1 = "page 1 size=2 orientation=0 sides=0 tray=1 copies=1"
@@ -37,15 +40,30 @@ def differences(row) -> list:
     return wrong
 
 
-def main() -> int:
-    passed = failed = 0
+def worked_examples() -> Iterator[Tuple[str, List[str]]]:
+    """Each example by its words, and what is wrong with it."""
     for table in TABLES:
         for row in table.ROWS:
-            wrong = differences(row)
-            for text in wrong:
-                print(f"{row[0]} of {row[2]} on {row[1]}: {text}")
-            passed += not wrong
-            failed += bool(wrong)
+            yield f"{row[0]} of {row[2]} on {row[1]}", differences(row)
+
+
+def rows_of_verdicts() -> Iterator[Tuple[str, List[str]]]:
+    """Each row by its file and line, and what is wrong with it."""
+    for path in sorted(verdicts.ROWS.glob("*.rows")):
+        for number, fleet, due, job in verdicts.rows_of(path):
+            answer = oracle.check([text.encode() for text in fleet], job)
+            is_due = answer.output.decode() == due + "\n"
+            yield (f"{path.name}:{number}",
+                   [] if is_due else [f"printed {answer.output!r}, due {due!r}"])
+
+
+def main() -> int:
+    passed = failed = 0
+    for name, wrong in (*worked_examples(), *rows_of_verdicts()):
+        for text in wrong:
+            print(f"{name}: {text}")
+        passed += not wrong
+        failed += bool(wrong)
     print(f"{passed} passed, {failed} failed")
     return 1 if failed else 0
 

@@ -1,9 +1,11 @@
 -- Lemmas on what is told of a job whose bytes are known.
-use Rattle.std.proofs.Common.{◌≡◌, ◌++◌, ◌∙◌, ℕ, List, [], Result, Ok, Err, Some, IfOk, IfErr, IfSome, ap, refl, subst, sym}
+use Rattle.std.proofs.Common.{◌≡◌, ◌++◌, ◌∙◌, ℕ, List, [], Result, Ok, Err, None, Some, IfOk, IfErr, IfSome, ap, refl, subst, sym}
 use Rattle.device_profile.specs.declared.fault.ProfileFault.{ProfileFault}
 use Rattle.device_profile.specs.declared.fault.ProfileFault.TheVariants.{Fault, Memory}
 use Rattle.device_profile.specs.Printer.{Printer}
 use Rattle.device_profile.specs.Text.{IsErrorOfText}
+use Rattle.job_reports.specs.Groups.{Groups, reported}
+use Rattle.job_reports.specs.JobSentences.{job_sentence}
 use Rattle.preflight.specs.declared.failing_item.Judgement.{Judgement}
 use Rattle.preflight.specs.FailingItem.{IsTold}
 use Rattle.preflight.specs.Judgement.{IsAnswer}
@@ -19,8 +21,8 @@ use Rattle.streams.specs.Source.{SourceState}
 use Rattle.subcommands.specs.JobNotes.{outcome_line}
 use Rattle.foreign_calls.specs.declared.why.Why.{Why}
 use Rattle.foreign_calls.specs.declared.why.Why.TheVariants.{Stopped, Refused, NotAllowed, NoField, NoPage, Unheard, NotText}
-use Rattle.foreign_calls.specs.Answers.{IsStop, IsWhyOf, Told, outcome_row, why_of}
-use Rattle.foreign_calls.specs.Checked.{PassesLimit}
+use Rattle.foreign_calls.specs.Answers.{IsStop, IsWhyOf, Told, outcome_row, verdict_row, why_of}
+use Rattle.foreign_calls.specs.Checked.{IsSentenceOf, IsTextOf, PassesLimit}
 use Rattle.foreign_calls.specs.Texts.{IsWrittenWithLine}
 
 -- what holds of every job that may be by the reads holds of the one that was known
@@ -49,10 +51,6 @@ module _ (rendering : Rendering) (start after : SourceState) (kept kept' : Outle
   told_with_line outcome text (Ok told) rendered known empty is told_is =
       (text, outcome, written_known outcome text rendered known empty is, told_is.1, told_is.0)
   told_with_line outcome text (Err why) rendered known empty is told_is = tt
-
-pub both_of : (work : Result Told Why) (P Q : Told → Type 0) → IfOk work P → IfOk work Q → IfOk work (λ told. P told × Q told)
-both_of (Ok told) P Q p q = (p, q)
-both_of (Err why) P Q p q = tt
 
 -- ---- why there is none
 
@@ -103,3 +101,19 @@ module _ (start after : SourceState) (fleet : List Printer) (job : List ℕ) whe
     asks = known_by start after job (λ bytes. IsFontOf fleet bytes answer.verdict answer.font) asks known;
   }
   judged_known (Err error) known exact promise told paged placed asks = tt
+
+-- ---- sentences
+
+-- the row and the text by an answer
+pub text_by : (group : Groups) (name : List ℕ) (answer : Judgement) (work : Result Told Why)
+    → IfOk work (λ told. told.row ≡ verdict_row answer.verdict answer.page)
+    → IfOk work (λ told. told.text ≡ job_sentence (reported group name (Ok answer) None)) → IfOk work (IsTextOf group name (Ok answer))
+text_by group name answer (Ok told) row text = (row, text)
+text_by group name answer (Err why) row text = tt
+
+-- the sentence by a right answer on a job is one on that job
+pub sentence_by : (group : Groups) (name job : List ℕ) (answer : Judgement) (work : Result Told Why) → IsAnswer group.fleet job answer
+    → IfOk work (λ told. told.row ≡ verdict_row answer.verdict answer.page)
+    → IfOk work (λ told. told.text ≡ job_sentence (reported group name (Ok answer) None)) → IfOk work (IsSentenceOf group name job)
+sentence_by group name job answer (Ok told) right row text = (answer, right, row, text)
+sentence_by group name job answer (Err why) right row text = tt

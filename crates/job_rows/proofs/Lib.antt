@@ -1,2 +1,3 @@
 mod Behind
+pub mod FirstAndRest
 mod Inert

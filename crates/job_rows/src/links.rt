@@ -1,5 +1,6 @@
 //! The document of a job, to which the job's row leads.
-ghost use Rattle.std.specs.Prelude.{◌≡◌, ◌++◌, ◌∷◌, [], MatchOption, OnOk, Some, option_map};
+ghost use Rattle.std.specs.Prelude.{◌≡◌, ◌<◌, ◌++◌, ◌∷◌, [], IfSome, MatchOption, OnOk, Some};
+ghost use Rattle.std.specs.Prelude.{length, option_map};
 ghost use Rattle.job_rows.specs.Links.{address_byte, address_of, document_path, has_pages};
 ghost use Rattle.job_rows.specs.Links.{is_letter_or_digit, is_plain, last_part, later_part, link};
 ghost use Rattle.job_rows.specs.Links.{link_part, told_of};
@@ -47,7 +48,9 @@ pub fn last_part(path: &[u8]) -> &[u8]
 
 /// The first byte, and what stands behind it.
 fn cut_byte(bytes: &[u8]) -> Option<(u8, &[u8])>
-    ensures { MatchOption result (bytes.now ≡ []) (λ cut. bytes.now ≡ cut.0 ∷ cut.1.now) }
+    ensures cut { MatchOption result (bytes.now ≡ [])
+        (λ cut. bytes.now ≡ cut.0 ∷ cut.1.now) }
+    ensures shorter { IfSome result (λ cut. length cut.1.now < length bytes.now) }
 {
     match bytes {
         [] => None,

@@ -1,7 +1,7 @@
 -- What the documents of jobs that are checked leave, each a file in a folder.
-use Rattle.std.specs.Prelude.{◌≡◌, ◌⊎◌, ◌&&◌, ◌||◌, ◌∷◌, ◌++◌, ◌-◌, ℕ, Bool, true, false, List, []}
-use Rattle.std.specs.Prelude.{Option, None, Some, codes, drop, get_or, if◌then◌else◌, length, nat_lt, IsFalse}
-use Rattle.std.specs.List.{list_any}
+use Rattle.std.specs.Prelude.{◌≡◌, ◌⊎◌, ◌&&◌, ◌||◌, ◌∷◌, ◌++◌, ℕ, Bool, true, false, List, []}
+use Rattle.std.specs.Prelude.{Option, None, Some, codes, get_or, if◌then◌else◌, nat_eq, IsFalse}
+use Rattle.std.specs.List.{ends_with, list_any}
 use Rattle.std.specs.Str.{bytes_eq}
 use Rattle.file_requests.specs.JobRequests.{LeavesPdfAt}
 use Rattle.job_reports.specs.JobSentences.{named_first}
@@ -32,8 +32,7 @@ is_named_in jobs part = list_any (has_same_part part) jobs
 
 -- it may be the document of another
 abbrev pub ends_in_pdf : (job : List ℕ) → Bool
-ends_in_pdf job =
-    if nat_lt (length job) 4 then false else bytes_eq (drop (length job - 4) job) (codes ".pdf")
+ends_in_pdf job = ends_with nat_eq job (codes ".pdf")
 
 -- a document would take its place, or that of its document, where these stand behind it
 abbrev pub is_taken : (job : List ℕ) → (jobs : List (List ℕ)) → Bool

@@ -1,6 +1,6 @@
 //! The documents of jobs that are checked, each a file in a folder.
-ghost use Rattle.std.specs.Prelude.{◌≡◌, ◌⊎◌, ◌&&◌, ◌∷◌, ◌++◌, [], IfNone, IfOk, IfSome};
-ghost use Rattle.std.specs.Prelude.{IsFalse, List, ℕ};
+ghost use Rattle.std.specs.Prelude.{◌≡◌, ◌<◌, ◌⊎◌, ◌&&◌, ◌∷◌, ◌++◌, [], IfNone, IfOk, IfSome};
+ghost use Rattle.std.specs.Prelude.{IsFalse, List, length, ℕ};
 ghost use Rattle.std.specs.Prelude.{MatchOption, None, OnOk, Some, map, option_map};
 ghost use Rattle.job_rows.specs.Links.{document_path};
 ghost use Rattle.many_jobs.specs.Asked.{asked_for};
@@ -73,15 +73,14 @@ fn is_taken(job: &[u8], behind: &[&[u8]]) -> bool
 fn ends_in_pdf(job: &[u8]) -> bool
     ensures { result ≡ ends_in_pdf job.now }
 {
-    if job.len() < 4 {
-        return false;
-    }
-    &job[job.len() - 4..] == b".pdf".as_slice()
+    job.ends_with(b".pdf")
 }
 
 /// The first job, and those behind it.
 fn cut_job<'j, 'n>(jobs: &'j [&'n [u8]]) -> Option<(&'n [u8], &'j [&'n [u8]])>
-    ensures { MatchOption result (jobs.now ≡ []) (λ cut. jobs.now ≡ cut.0 ∷ cut.1.now) }
+    ensures cut { MatchOption result (jobs.now ≡ [])
+        (λ cut. jobs.now ≡ cut.0 ∷ cut.1.now) }
+    ensures shorter { IfSome result (λ cut. length cut.1.now < length jobs.now) }
 {
     match jobs {
         [] => None,

@@ -1,4 +1,5 @@
 -- A handle that holds a session, and its parts, own what a box at the same types owns.
+use Rattle.std.proofs.Common.{[]}
 use mir.Syntax.{impl, tnil, dnil}
 use denote.Signature.{Slot, plain}
 use Rattle.std_alloc.proofs.BoxSteps.Form.{Bx}

@@ -2,8 +2,8 @@ use Rattle.pclcheck_c.specs.Sessions.{Ends}
 use Rattle.pclcheck_c.proofs.Sessions.{goes, on_held}
 use Rattle.pclcheck_c.proofs.pclcheck_session_end.Goals as goal
 
-pub end-requires : goal.end-requires
-end-requires c =
+pub end-number-requires : goal.end-number-requires
+end-number-requires c =
     goes c.args.fleet.now.held c.args.session.now.held c.take-held.result.value _ c.take-going.result.value _ c.take-held.ensures.taken
     c.take-going.ensures.taken c.deref.ensures c.deref_mut.ensures.value c.requires.going
 

@@ -2,8 +2,8 @@ use Rattle.pclcheck_c.specs.Sessions.{Feeds}
 use Rattle.pclcheck_c.proofs.Sessions.{goes, on_held}
 use Rattle.pclcheck_c.proofs.pclcheck_session_feed.Goals as goal
 
-pub feed-requires : goal.feed-requires
-feed-requires c =
+pub feed-number-requires : goal.feed-number-requires
+feed-number-requires c =
     goes c.args.fleet.now.held c.args.session.now.held c.take-held.result.value _ c.take-going.result.value _ c.take-held.ensures.taken
     c.take-going.ensures.taken c.deref.ensures c.deref_mut.ensures.value c.requires.going
 

@@ -4,8 +4,8 @@ use Rattle.pclcheck_c.specs.Sessions.{Says}
 use Rattle.pclcheck_c.proofs.Sessions.{goes, on_held}
 use Rattle.pclcheck_c.proofs.pclcheck_session_tell.Goals as goal
 
-pub tell-requires : goal.tell-requires
-tell-requires c =
+pub tell-told-requires : goal.tell-told-requires
+tell-told-requires c =
     goes c.args.fleet.now.held c.args.session.now.held c.take-held.result.value _ c.take-going.result.value _ c.take-held.ensures.taken
     c.take-going.ensures.taken c.deref.ensures c.deref_mut.ensures.value c.requires.going
 

@@ -1,4 +1,4 @@
-use Rattle.std.proofs.Common.{◌&&◌, map, subst, sym, true}
+use Rattle.std.proofs.Common.{◌&&◌, Bool, map, subst, sym, true}
 use Rattle.std.proofs.Math.Bool.{and-true, and_assoc, true-and}
 use Rattle.many_jobs.specs.Asked.{asked_for}
 use Rattle.many_requests.specs.Documents.{WritesDocuments}
@@ -17,7 +17,7 @@ loop-job-preserved g c = λ others used' err' more.
     let asked = asked_for c.args.many.now in
     let one = c.write_document-is_written.result in
     let all =
-    λ well. WritesDocuments c.args.folder.now asked (map (λ job. job.now) c.args.jobs.now) well c.args.used.now used'
+    λ (well : Bool). WritesDocuments c.args.folder.now asked (map (λ job. job.now) c.args.jobs.now) well c.args.used.now used'
     (g.E.Outlet.state c.args.stderr.now) err' in
     subst (λ well. all (well && others)) (sym c.both.ensures)
     (subst all (sym (and_assoc c.loop-job.is_well one others))
