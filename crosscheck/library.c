@@ -97,11 +97,11 @@ static void write_answer(const char *name, uint32_t answer, const struct subject
     const struct pclcheck_verdict *verdict = &subject->verdict;
     const struct pclcheck_refusal *refusal = &subject->refusal;
 
-    printf("%s %u %zu %llu %llu %llu %llu %u %llu %llu %u\n", name, answer, text.length,
+    printf("%s %u %zu %llu %llu %llu %llu %llu %u %llu %llu %u\n", name, answer, text.length,
            (unsigned long long)verdict->pages, (unsigned long long)verdict->marks,
            (unsigned long long)verdict->place, (unsigned long long)verdict->printer,
-           verdict->number, (unsigned long long)refusal->number,
-           (unsigned long long)refusal->line, refusal->cause);
+           (unsigned long long)verdict->page, verdict->number,
+           (unsigned long long)refusal->number, (unsigned long long)refusal->line, refusal->cause);
     fwrite(text.bytes, 1, text.length, stdout);
 }
 

@@ -15,6 +15,7 @@ and what `make build` built, and without cc compares nothing. Prints each differ
 `N compared, M differ`, where N counts jobs. The exit status is 0 where M is 0, else 1.
 """
 
+import json
 import os
 import re
 import shutil
@@ -78,7 +79,7 @@ def faults_of_built() -> Iterator[str]:
 class Answer(NamedTuple):
     """What a call answers: its number, the numbers that it leaves, and its text."""
     number: int
-    verdict: Tuple[int, ...]                  # pages, marks, place, printer, number
+    verdict: Tuple[int, ...]                  # pages, marks, place, printer, page, number
     refusal: Tuple[int, ...]                  # number, line, cause
     text: bytes
 
@@ -124,7 +125,7 @@ def answers_in(output: bytes) -> Dict[str, Answer]:
         line, _, output = output.partition(b"\n")
         name, *numbers = line.decode().split()
         number, length, *rows = map(int, numbers)
-        found[name] = Answer(number, tuple(rows[:5]), tuple(rows[5:]), output[:length])
+        found[name] = Answer(number, tuple(rows[:6]), tuple(rows[6:]), output[:length])
         output = output[length:]
     return found
 
@@ -144,22 +145,29 @@ class Program:
         written = out.read_bytes() if out.exists() else b""
         return Told(run.returncode, run.stdout, run.stderr, written)
 
+    def verdict(self, *printers: str) -> Tuple[int, ...]:
+        """That on the job for these printers, with the page that the object of the job tells."""
+        line = self.run("check", "job", *printers).output
+        told = [word for printer in printers for word in ("-p", printer)]
+        objects = self.run("check", "--format", "json", *told, "job").output
+        return verdict_in(line, json.loads(objects.splitlines()[0]).get("page", 0))
+
     def sentence(self, *words: str) -> bytes:
         named = [word for printer in self.printers for word in ("-p", printer)]
         return self.run("check", "--format", "words", *words, *named, "job").output
 
 
-def verdict_in(line: bytes) -> Tuple[int, ...]:
-    """The numbers of a line PASS or FAIL, or of the line of a fault in a list."""
+def verdict_in(line: bytes, page: int = 0) -> Tuple[int, ...]:
+    """The numbers of a line PASS or FAIL, or of the line of a fault in a list, with this page."""
     words = line.decode(errors="replace").split()
     if words[:1] == ["PASS"]:
-        return (*(int(word.partition("=")[2]) for word in words[1:3]), 0, 0, 0)
+        return (*(int(word.partition("=")[2]) for word in words[1:3]), 0, 0, page, 0)
     if words[:1] == ["FAIL"]:
         place, printer = (int(word.partition("=")[2]) for word in words[1:3])
-        return (0, 0, place, printer, int(words[3]))
+        return (0, 0, place, printer, page, int(words[3]))
     if words[1:2] == ["FAULT"]:
-        return (0, 0, int(words[0]), 0, int(words[2]))
-    return (0, 0, 0, 0, 0)
+        return (0, 0, int(words[0]), 0, page, int(words[2]))
+    return (0,) * 6
 
 
 def last_line(output: bytes) -> bytes:
@@ -171,24 +179,24 @@ def fleet_due(program: Program) -> Answer:
     told = program.run("check", "job", *program.printers)
     words = told.errors.decode(errors="replace").split()
     if told.status != 2:
-        return Answer(DONE, (0,) * 5, (0,) * 3, b"")
+        return Answer(DONE, (0,) * 6, (0,) * 3, b"")
     number, line, cause = words[2:5]
-    return Answer(REFUSED, (0,) * 5, (int(number), int(line), CAUSES.index(cause)), b"")
+    return Answer(REFUSED, (0,) * 6, (int(number), int(line), CAUSES.index(cause)), b"")
 
 
 def texts_due(program: Program) -> Dict[str, Tuple[int, Optional[Tuple[int, ...]], bytes]]:
     """Of each call that puts a text what it answers, the verdict that it leaves, where it leaves
     one, and its text."""
     first = program.printers[0]
-    check = program.run("check", "job", *program.printers).output
+    check = program.verdict(*program.printers)
     each = program.sentence("--each").splitlines(keepends=True)
-    alone = [program.run("check", "job", printer).output for printer in program.printers]
-    due = {"check": (DONE, verdict_in(check), b""),
+    due = {"check": (DONE, check, b""),
            "version": (DONE, None, program.run("--version").output.split()[1]),
            "explain": (DONE, None, program.run("explain", "12").output),
-           "tell": (DONE, verdict_in(check), program.sentence()),
-           "tell-first": (DONE, verdict_in(alone[0]), each[0]),
-           "tell-last": (DONE, verdict_in(alone[-1]), each[-1]),
+           "faults": (DONE, None, program.run("profile", "lint", "job").output),
+           "tell": (DONE, check, program.sentence()),
+           "tell-first": (DONE, program.verdict(first), each[0]),
+           "tell-last": (DONE, program.verdict(program.printers[-1]), each[-1]),
            "tell-none": (NO_PRINTER, None, b""), "pin-nothing": (NO_FIELD, None, b"")}
     due.update(dict.fromkeys(("pieces-1", "pieces-7", "pieces-4096"), due["tell"]))
     told = program.run("check", "--format", "words", "--most-items", "10", "-p", first, "job")

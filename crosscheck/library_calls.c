@@ -118,6 +118,13 @@ static uint32_t printer_name(struct subject *subject, uint8_t *text, size_t room
                                  room, needed);
 }
 
+/* A job is no profile, so that each has its faults. */
+static uint32_t faults(struct subject *subject, uint8_t *text, size_t room, size_t *needed)
+{
+    return pclcheck_faults(NAME, sizeof NAME, subject->job.bytes, subject->job.length, text, room,
+                           needed);
+}
+
 static uint32_t tell_of(struct subject *subject, size_t printer, uint8_t *text, size_t room,
                         size_t *needed)
 {
@@ -287,7 +294,7 @@ static uint32_t pin_nothing(struct subject *subject, uint8_t *text, size_t room,
 
 const struct call CALLS[] = {
     {"version", version}, {"explain", explain}, {"unheard", unheard},
-    {"printer-name", printer_name}, {"tell", tell}, {"tell-first", tell_first},
+    {"printer-name", printer_name}, {"faults", faults}, {"tell", tell}, {"tell-first", tell_first},
     {"tell-last", tell_last}, {"tell-none", tell_none}, {"pieces-1", tell_bytes},
     {"pieces-7", tell_sevens}, {"pieces-4096", tell_blocks}, {"limit-10", tell_limited},
     {"list", list}, {"plain", plain},

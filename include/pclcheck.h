@@ -48,6 +48,7 @@ struct pclcheck_verdict {
     uint64_t marks;   /* of a job that passes a check the number of its marks; 0 of any other */
     uint64_t place;   /* where the job fails, in bytes from its start */
     uint64_t printer; /* the number of the printer that it fails for, from 1; 0 for its bytes */
+    uint64_t page;    /* of a job that fails a check the page, from 1; 0 of any other */
     uint32_t number;  /* of the fault or finding by which it fails; 0 where it does not */
 };
 
@@ -98,6 +99,14 @@ uint32_t pclcheck_explain(const uint8_t *code, size_t code_length, uint8_t *text
  * Answers: DONE, ROOM. */
 uint32_t pclcheck_printer_name(const uint8_t *profile, size_t profile_length, uint8_t *text,
                                size_t room, size_t *needed);
+
+/* Puts all that is wrong with the text of a profile, as `pclcheck profile lint` writes it: a line
+ * for each fault, with its line in the text and the rule in words. The lines begin with this name
+ * of the text. Of a profile there is nothing wrong, and nothing is put.
+ *
+ * Answers: DONE, ROOM, MEMORY. */
+uint32_t pclcheck_faults(const uint8_t *name, size_t name_length, const uint8_t *profile,
+                         size_t profile_length, uint8_t *text, size_t room, size_t *needed);
 
 /* ---- fleets */
 

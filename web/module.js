@@ -96,7 +96,7 @@ const FIELDS = ["size", "orientation", "vmi", "font", "copies", "sides", "tray",
 
 /** The numbers of rows, by their bytes. */
 const REFUSAL = [8, 8, 4];
-const VERDICT = [8, 8, 8, 8, 4];
+const VERDICT = [8, 8, 8, 8, 8, 4];
 const JUDGEMENT = [8, 8, 8, 8, 8, -8, -8, 4, 4, 4];
 const COUNT = [8];
 
@@ -147,7 +147,7 @@ function joined(profiles) {
  * @param {number[]} row
  * @returns {Outcome}
  */
-function outcomeOf([, , place, printer, number]) {
+function outcomeOf([, , place, printer, , number]) {
   return { status: number === 0 ? "PASS" : "FAIL", place, printer, number };
 }
 

@@ -73,7 +73,7 @@ class ProfileRefused(Error):
     """The text of a profile is refused.
 
     `number` counts the profiles of a fleet from 1, and `line` the lines of the text, where 0 is
-    the text as a whole.
+    the text as a whole. `profile_faults` tells in words what is wrong.
     """
 
     def __init__(self, number: int, line: int, cause: Cause) -> None:
@@ -102,14 +102,16 @@ class Verdict:
     """What came of a job; it is true where nothing is wrong.
 
     Where the job fails, `place` counts the bytes before the failure, `printer` the printers of the
-    fleet from 1, and is 0 where the bytes themselves are wrong, and `number` is that of the fault
-    or finding, of which `explain` tells more. `sentence` is what a check says of the job.
+    fleet from 1, and is 0 where the bytes themselves are wrong, `page` is the page that is open
+    there, of which `picture` makes a drawing, and `number` is that of the fault or finding, of
+    which `explain` tells more. `sentence` is what a check says of the job.
     """
 
     pages: int
     marks: int
     place: int
     printer: int
+    page: int
     number: int
     sentence: str = ""
 
@@ -123,7 +125,7 @@ class Verdict:
 
 class JobText(NamedTuple):
     """What is written of a job, and by what it ends too early; that of a verdict which passes says
-    that it was gone through to its end, and has no counts."""
+    that it was gone through to its end. It has no counts and no page."""
 
     text: bytes
     verdict: Verdict
@@ -142,10 +144,11 @@ class _Session(ctypes.Structure):
 class _Verdict(ctypes.Structure):
     _fields_ = [("pages", ctypes.c_uint64), ("marks", ctypes.c_uint64),
                 ("place", ctypes.c_uint64), ("printer", ctypes.c_uint64),
-                ("number", ctypes.c_uint32)]
+                ("page", ctypes.c_uint64), ("number", ctypes.c_uint32)]
 
     def told(self, sentence: str = "") -> Verdict:
-        return Verdict(self.pages, self.marks, self.place, self.printer, self.number, sentence)
+        return Verdict(self.pages, self.marks, self.place, self.printer, self.page, self.number,
+                       sentence)
 
 
 class _Refusal(ctypes.Structure):
@@ -173,6 +176,7 @@ _CALLS: dict[str, tuple[Any, ...]] = {
     "pclcheck_version": _TEXT,
     "pclcheck_explain": (*_BYTES, *_TEXT),
     "pclcheck_printer_name": (*_BYTES, *_TEXT),
+    "pclcheck_faults": (*_BYTES, *_BYTES, *_TEXT),
     "pclcheck_fleet_new": (_OF_FLEET,),
     "pclcheck_fleet_limit": (_OF_FLEET, ctypes.c_uint64),
     "pclcheck_fleet_add": (_OF_FLEET, *_BYTES, _OF_REFUSAL),
@@ -419,6 +423,13 @@ def explain(code: Union[int, str] = "") -> str:
 def printer_name(profile: bytes) -> str:
     """The name that the text of a profile gives its printer, or nothing."""
     return _text("pclcheck_printer_name", *_bytes(profile)).decode(errors=_OTHER_BYTES)
+
+
+def profile_faults(profile: bytes, name: str = "profile") -> str:
+    """All that is wrong with the text of a profile, a line for each fault, which begins with this
+    name of the text; nothing where it describes a printer."""
+    return _text("pclcheck_faults", *_bytes(name.encode(errors=_OTHER_BYTES)),
+                 *_bytes(profile)).decode(errors=_OTHER_BYTES)
 
 
 def list_items(job: bytes) -> JobText:

@@ -56,6 +56,8 @@ def try_errors(folder: Path, fleet: pclcheck.Fleet) -> None:
     job, profile = (folder / "letter.pcl").read_bytes(), (folder / PROFILES[0]).read_bytes()
     assert raised(lambda: fleet.add(profile + b"copies 1\n")) == "ProfileRefused"
     assert len(fleet) == len(PROFILES)
+    assert pclcheck.profile_faults(profile) == ""
+    assert "copies" in pclcheck.profile_faults(profile + b"copies 1\n")
     assert raised(lambda: fleet.check(job, printer=4)) == "IndexError"
     assert raised(lambda: pclcheck.picture(job, profile, 3)) == "NoPage"
     assert raised(lambda: pclcheck.explain("no such thing")) == "Unknown"

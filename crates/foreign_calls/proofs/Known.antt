@@ -106,14 +106,14 @@ module _ (start after : SourceState) (fleet : List Printer) (job : List ℕ) whe
 
 -- the row and the text by an answer
 pub text_by : (group : Groups) (name : List ℕ) (answer : Judgement) (work : Result Told Why)
-    → IfOk work (λ told. told.row ≡ verdict_row answer.verdict)
+    → IfOk work (λ told. told.row ≡ verdict_row answer.verdict answer.page)
     → IfOk work (λ told. told.text ≡ job_sentence (reported group name (Ok answer) None)) → IfOk work (IsTextOf group name (Ok answer))
 text_by group name answer (Ok told) row text = (row, text)
 text_by group name answer (Err why) row text = tt
 
 -- the sentence by a right answer on a job is one on that job
 pub sentence_by : (group : Groups) (name job : List ℕ) (answer : Judgement) (work : Result Told Why) → IsAnswer group.fleet job answer
-    → IfOk work (λ told. told.row ≡ verdict_row answer.verdict)
+    → IfOk work (λ told. told.row ≡ verdict_row answer.verdict answer.page)
     → IfOk work (λ told. told.text ≡ job_sentence (reported group name (Ok answer) None)) → IfOk work (IsSentenceOf group name job)
 sentence_by group name job answer (Ok told) right row text = (answer, right, row, text)
 sentence_by group name job answer (Err why) right row text = tt

@@ -1,5 +1,6 @@
 -- The numbers that calls answer, and what they leave in the rooms of their callers.
-use Rattle.std.specs.Prelude.{◌≡◌, ℕ, ◌++◌, List, drop, length, nat_le, if◌then◌else◌, Result, Ok, Err, IfOk, IfErr, ⊤}
+use Rattle.std.specs.Prelude.{◌≡◌, ℕ, ◌++◌, List, drop, length, nat_le, if◌then◌else◌, Option, None, Some}
+use Rattle.std.specs.Prelude.{Result, Ok, Err, IfOk, IfErr, ⊤}
 use Rattle.device_profile.specs.declared.fault.Cause.{Cause}
 use Rattle.device_profile.specs.declared.fault.Cause.TheVariants.{Version, Unknown, Repeated, Range, Missing}
 use Rattle.device_profile.specs.declared.fault.Cause.TheVariants.{NoGeometry}
@@ -61,16 +62,28 @@ work_number (Err why) = why_number why
 
 -- ---- rows
 
--- a verdict in numbers: 0 is the number of a Pass
-abbrev pub verdict_row : Verdict → VerdictRow
-verdict_row (Pass pages marks) = record { pages = pages; marks = marks; place = 0; printer = 0; number = 0 }
-verdict_row (Fail place profile finding) =
-    record { pages = 0; marks = 0; place = place; printer = profile; number = reason_number finding }
+-- the number of a page that is told, or 0
+abbrev pub page_number : Option ℕ → ℕ
+page_number None = 0
+page_number (Some page) = page
 
--- what came of the writing of a text, in numbers: 0 where the job was gone through to its end
+-- a verdict in numbers, with the page that is told with it: 0 is the number of a Pass
+abbrev pub verdict_row : Verdict → (page : Option ℕ) → VerdictRow
+verdict_row (Pass pages marks) page =
+    record { pages = pages; marks = marks; place = 0; printer = 0; page = page_number page; number = 0 }
+verdict_row (Fail place profile finding) page = record {
+  pages = 0;
+  marks = 0;
+  place = place;
+  printer = profile;
+  page = page_number page;
+  number = reason_number finding;
+}
+
+-- what came of the writing of a text, in numbers: 0 where the job was gone through to its end; no page is told
 abbrev pub outcome_row : Outcome → VerdictRow
-outcome_row Done = verdict_row (Pass 0 0)
-outcome_row (FailsOf place profile finding) = verdict_row (Fail place profile finding)
+outcome_row Done = verdict_row (Pass 0 0) None
+outcome_row (FailsOf place profile finding) = verdict_row (Fail place profile finding) None
 
 -- a profile that is refused
 abbrev pub refusal_row : Refusal → Why → Refusal

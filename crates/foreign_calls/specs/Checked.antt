@@ -19,7 +19,7 @@ answer_number (Ok answer) = 0
 answer_number (Err error) = error_number error
 
 abbrev pub answer_row : VerdictRow → Result Judgement Error → VerdictRow
-answer_row row (Ok answer) = verdict_row answer.verdict
+answer_row row (Ok answer) = verdict_row answer.verdict answer.page
 answer_row row (Err error) = row
 
 -- the verdict on a job is that its macros carry out more items than a printer allows
@@ -45,12 +45,12 @@ pub record Checks (fleet : List Printer) (job : List ℕ) (number : ℕ) (row ro
 -- the sentence by an answer on a job of this name for these printers, and its verdict
 abbrev pub IsTextOf : Groups → (name : List ℕ) → Result Judgement Error → Told → Type 0
 IsTextOf group name (Ok answer) told =
-    (told.row ≡ verdict_row answer.verdict)
+    (told.row ≡ verdict_row answer.verdict answer.page)
     × (told.text ≡ job_sentence (reported group name (Ok answer) None))
 IsTextOf group name (Err error) told = ⊥
 
 -- the sentence on a job of this name for these printers, and its verdict
 abbrev pub IsSentenceOf : Groups → (name job : List ℕ) → Told → Type 0
 IsSentenceOf group name job told =
-    (answer : Judgement) × IsAnswer group.fleet job answer × (told.row ≡ verdict_row answer.verdict)
+    (answer : Judgement) × IsAnswer group.fleet job answer × (told.row ≡ verdict_row answer.verdict answer.page)
     × (told.text ≡ job_sentence (reported group name (Ok answer) None))

@@ -52,7 +52,7 @@ pub fn leave(answer: Result<Judgement, Error>, row: &mut VerdictRow) -> u32
 {
     match answer {
         Ok(judgement) => {
-            *row = verdict_row(judgement.verdict);
+            *row = verdict_row(judgement.verdict, judgement.page);
             DONE
         }
         Err(error) => error_number(error),
@@ -98,14 +98,15 @@ fn told_of<A: Allocator + Copy>(
     name: &[u8],
     judgement: Judgement,
 ) -> Result<Told<A>, Why>
-    ensures row { IfOk result (λ told. told.row ≡ verdict_row judgement.verdict) }
+    ensures row { IfOk result (λ told. told.row
+        ≡ verdict_row judgement.verdict judgement.page) }
     ensures text { IfOk result (λ told. told.text
         ≡ job_sentence (reported group.now name.now (Ok judgement) None)) }
     ensures stops { IfErr result IsStop }
 {
     match sentence(alloc, group, name, judgement) {
         Ok(text) => Ok(Told {
-            row: verdict_row(judgement.verdict),
+            row: verdict_row(judgement.verdict, judgement.page),
             text,
         }),
         Err(error) => Err(Why::from(error)),

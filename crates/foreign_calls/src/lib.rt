@@ -10,6 +10,7 @@ mod numbers;
 mod one_text;
 mod panel_values;
 mod printer_texts;
+mod profile_faults;
 mod room;
 mod rows;
 mod told;
@@ -25,6 +26,7 @@ pub use numbers::{
 };
 pub use one_text::OneText;
 pub use printer_texts::{noted, paged, pinned, read_limited, read_printer};
+pub use profile_faults::faults;
 pub use room::put;
 pub use rows::{PanelValue, Refusal, VerdictRow, verdict_row};
 pub use told::{Told, hand_out, leave_refusal, leave_row};

@@ -1,6 +1,6 @@
 //! What crosses to C beside texts: rows of numbers.
 ghost use Rattle.std.specs.Prelude.{◌≡◌};
-ghost use Rattle.foreign_calls.specs.Answers.{outcome_row, verdict_row};
+ghost use Rattle.foreign_calls.specs.Answers.{outcome_row, page_number, verdict_row};
 
 use preflight::Verdict;
 use renderings::Outcome;
@@ -17,6 +17,8 @@ pub struct VerdictRow {
     pub place: u64,
     /// The number of the printer that it fails for, from 1; 0 for a fault of its bytes.
     pub printer: u64,
+    /// The page that is open where a job fails a check, from 1; 0 of any other.
+    pub page: u64,
     /// The number of the fault or finding by which it fails; 0 where it does not.
     pub number: u32,
 }
@@ -43,16 +45,18 @@ pub struct PanelValue {
     pub value: u32,
 }
 
-/// A verdict in numbers.
-pub fn verdict_row(verdict: Verdict) -> VerdictRow
-    ensures { result ≡ verdict_row verdict }
+/// A verdict in numbers, with the page that is told with it.
+pub fn verdict_row(verdict: Verdict, page: Option<u64>) -> VerdictRow
+    ensures { result ≡ verdict_row verdict page }
 {
+    let page = page_number(page);
     match verdict {
         Verdict::Pass { pages, marks } => VerdictRow {
             pages,
             marks,
             place: 0,
             printer: 0,
+            page,
             number: 0,
         },
         Verdict::Fail {
@@ -64,25 +68,39 @@ pub fn verdict_row(verdict: Verdict) -> VerdictRow
             marks: 0,
             place,
             printer: profile,
+            page,
             number: u32::from(finding.number()),
         },
     }
 }
 
-/// What came of the writing of a text, in numbers.
+/// The number of a page, or 0.
+fn page_number(page: Option<u64>) -> u64
+    ensures { result ≡ page_number page }
+{
+    match page {
+        None => 0,
+        Some(number) => number,
+    }
+}
+
+/// What came of the writing of a text, in numbers. No page is told.
 pub(crate) fn outcome_row(outcome: Outcome) -> VerdictRow
     ensures { result ≡ outcome_row outcome }
 {
     match outcome {
-        Outcome::Done => verdict_row(Verdict::Pass { pages: 0, marks: 0 }),
+        Outcome::Done => verdict_row(Verdict::Pass { pages: 0, marks: 0 }, None),
         Outcome::Fail {
             place,
             profile,
             finding,
-        } => verdict_row(Verdict::Fail {
-            place,
-            profile,
-            finding,
-        }),
+        } => {
+            let verdict = Verdict::Fail {
+                place,
+                profile,
+                finding,
+            };
+            verdict_row(verdict, None)
+        }
     }
 }

@@ -19,6 +19,7 @@
 ghost use Rattle.std.specs.Prelude.{◌≡◌, length, map, None, IfSome, IsSome};
 ghost use Rattle.command_names.specs.CommandNames.{table};
 ghost use Rattle.device_profile.specs.Name.{printer_name};
+ghost use Rattle.profile_lint.specs.Lint.{faults_text};
 ghost use Rattle.renderings.specs.Expected.{list_rendering, plain_rendering};
 ghost use Rattle.foreign_calls.specs.Answers.{IsHanded, IsStop, IsWhyOf, Tells, filled, refusal_by};
 ghost use Rattle.foreign_calls.specs.Answers.{room_number, row_by};
@@ -40,7 +41,8 @@ use crate::checking::{check, tell};
 use crate::session_handle::begin;
 use device_profile::printer_name;
 use foreign_calls::{
-    drawn, explained, hand_out, leave_refusal, leave_row, list, noted, paged, pinned, plain, put,
+    drawn, explained, faults, hand_out, leave_refusal, leave_row, list, noted, paged, pinned,
+    plain, put,
 };
 pub use foreign_calls::{
     DONE, ITEMS, JUDGED, LONG, MEMORY, NO_FIELD, NO_PAGE, NO_PRINTER, NOT_ALLOWED, PanelValue,
@@ -94,6 +96,25 @@ pub extern "C" fn pclcheck_printer_name(profile: &[u8], text: &mut [u8], needed:
     ensures needed { needed.new ≡ length (printer_name profile.now) }
 {
     put(printer_name(profile), text, needed)
+}
+
+/// Puts all that is wrong with the text of a profile, as `pclcheck profile lint` writes it: a line
+/// for each fault, with its line in the text and the rule in words. The lines begin with this name
+/// of the text. Of a profile there is nothing wrong, and nothing is put.
+///
+/// The answer is `DONE`, `ROOM` or `MEMORY`.
+#[unsafe(no_mangle)]
+pub extern "C" fn pclcheck_faults(
+    alloc: Global,
+    name: &[u8],
+    profile: &[u8],
+    text: &mut [u8],
+    needed: &mut usize,
+) -> u32
+    ensures { Tells (λ told. told.text ≡ faults_text name.now profile.now) IsStop
+        (λ told. IsHanded told result text.old text.new needed.old needed.new) }
+{
+    hand_out(&faults(alloc, name, profile), text, needed)
 }
 
 // ---- fleets

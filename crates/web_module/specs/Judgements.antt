@@ -42,14 +42,14 @@ placed_number (Some spot) = 1
 -- a judgement in numbers
 abbrev pub judgement_row : Judgement → JudgementRow
 judgement_row judgement = record {
-  pages = (verdict_row judgement.verdict).pages;
-  marks = (verdict_row judgement.verdict).marks;
-  place = (verdict_row judgement.verdict).place;
-  printer = (verdict_row judgement.verdict).printer;
-  page = unwrap_or judgement.page 0;
+  pages = (verdict_row judgement.verdict judgement.page).pages;
+  marks = (verdict_row judgement.verdict judgement.page).marks;
+  place = (verdict_row judgement.verdict judgement.page).place;
+  printer = (verdict_row judgement.verdict judgement.page).printer;
+  page = (verdict_row judgement.verdict judgement.page).page;
   x = (unwrap_or judgement.cursor no_spot).x;
   y = (unwrap_or judgement.cursor no_spot).y;
-  number = (verdict_row judgement.verdict).number;
+  number = (verdict_row judgement.verdict judgement.page).number;
   kind = told_kind judgement.verdict judgement.failing_item;
   is_placed = placed_number judgement.cursor;
 }

@@ -38,14 +38,14 @@ pub struct JudgementRow {
 pub(crate) fn judgement_row(judgement: Judgement) -> JudgementRow
     ensures { result ≡ judgement_row judgement }
 {
-    let row = verdict_row(judgement.verdict);
+    let row = verdict_row(judgement.verdict, judgement.page);
     let spot = judgement.cursor.unwrap_or(SheetSpot { x: 0, y: 0 });
     JudgementRow {
         pages: row.pages,
         marks: row.marks,
         place: row.place,
         printer: row.printer,
-        page: judgement.page.unwrap_or(0),
+        page: row.page,
         x: spot.x,
         y: spot.y,
         number: row.number,
