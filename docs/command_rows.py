@@ -37,7 +37,8 @@ def commands() -> tuple[list[Row], list[Row]]:
             for name, body in re.findall(r"const (\w+): &CommandRow = &CommandRow \{(.*?)\n\};",
                                          path.read_text(encoding="utf-8"), re.DOTALL)}
     text = (ROWS / "commands.rt").read_text(encoding="utf-8")
-    constants = dict(re.findall(r"CommandName::(\w+) => (\w+)", text))
+    constants = {name: row.upper()
+                 for name, row in re.findall(r"CommandName::(\w+) => (\w+)_row\(\)", text)}
 
     def listed(constant: str) -> list[Row]:
         body = re.search(rf"const {constant}: &\[CommandName\] = &\[(.*?)\];", text, re.DOTALL)[1]

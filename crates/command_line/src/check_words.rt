@@ -144,7 +144,7 @@ What stands behind a FAIL is not judged.
 @A to @D are profiles to try with. 'pclcheck check --help' tells all.";
 
 /// The words of the command `check`.
-pub(crate) const CHECK: &CommandRow = &CommandRow {
+const CHECK: &CommandRow = &CommandRow {
     name: "check",
     about: "Checks jobs for a fleet of printers, and writes a line for each: PASS or FAIL",
     short_help: CHECK_SHORT_HELP,
@@ -166,6 +166,11 @@ pub(crate) const CHECK: &CommandRow = &CommandRow {
     ],
     options: MANY_OPTIONS,
 };
+
+/// The row of the command `check`.
+pub(crate) fn check_row() -> &'static CommandRow {
+    CHECK
+}
 
 /// The request of the words behind `check`.
 pub fn check_request<'a>(

@@ -1,15 +1,17 @@
 //! The commands by their rows, and the command line that they make up.
 
-use crate::check_words::{CHECK, EXPLANATION};
-use crate::compare_words::COMPARE;
+use crate::check_words::{EXPLANATION, check_row};
+use crate::compare_words::compare_row;
 use crate::form_words::FORMAT;
-use crate::pdf_words::PDF;
-use crate::picture_words::PICTURE;
-use crate::profile_tool_words::{PROFILE_FROM_PJL, PROFILE_LINT, PROFILE_SHEET, PROFILE_SHOW};
-use crate::profile_words::{PROFILE_COMMANDS, PROFILE_LIST, PROFILE_NEW};
+use crate::pdf_words::pdf_row;
+use crate::picture_words::picture_row;
+use crate::profile_tool_words::{
+    profile_from_pjl_row, profile_lint_row, profile_sheet_row, profile_show_row,
+};
+use crate::profile_words::{profile_commands_row, profile_list_row, profile_new_row};
 use crate::rows::{CommandRow, Count, Need, WordRow};
-use crate::survey_words::SURVEY;
-use crate::text_commands::{LIST, NOTES, PAGES, PIN, PLAIN};
+use crate::survey_words::survey_row;
+use crate::text_commands::{list_row, notes_row, pages_row, pin_row, plain_row};
 use crate::word::Word;
 use clap::Command;
 use std::alloc::{AllocError, Global};
@@ -64,6 +66,11 @@ const PROGRAM: &CommandRow = &CommandRow {
     options: &[FORMAT],
 };
 
+/// The row of the program.
+fn program_row() -> &'static CommandRow {
+    PROGRAM
+}
+
 /// The words of the command `explain`.
 const EXPLAIN: &CommandRow = &CommandRow {
     name: "explain",
@@ -79,6 +86,11 @@ const EXPLAIN: &CommandRow = &CommandRow {
     }],
     options: &[],
 };
+
+/// The row of the command `explain`.
+fn explain_row() -> &'static CommandRow {
+    EXPLAIN
+}
 
 /// The program or one of its commands, by which its row is found.
 #[derive(Clone, Copy)]
@@ -130,29 +142,29 @@ const BELOW_PROFILE: &[CommandName] = &[
 ];
 
 impl CommandName {
-    // A proof has the texts of a constant at each step behind the one that names it, so rows are
-    // named here, where no step follows.
+    // A proof takes long over the texts of a constant, and over those of several in one function
+    // much longer: each row has a function of its own, where no step follows.
     pub(crate) fn row(self) -> &'static CommandRow {
         match self {
-            CommandName::Program => PROGRAM,
-            CommandName::Check => CHECK,
-            CommandName::Survey => SURVEY,
-            CommandName::Compare => COMPARE,
-            CommandName::List => LIST,
-            CommandName::Pages => PAGES,
-            CommandName::Picture => PICTURE,
-            CommandName::Pdf => PDF,
-            CommandName::Notes => NOTES,
-            CommandName::Plain => PLAIN,
-            CommandName::Pin => PIN,
-            CommandName::Explain => EXPLAIN,
-            CommandName::Profile => PROFILE_COMMANDS,
-            CommandName::ProfileList => PROFILE_LIST,
-            CommandName::ProfileNew => PROFILE_NEW,
-            CommandName::ProfileLint => PROFILE_LINT,
-            CommandName::ProfileShow => PROFILE_SHOW,
-            CommandName::ProfileSheet => PROFILE_SHEET,
-            CommandName::ProfileFromPjl => PROFILE_FROM_PJL,
+            CommandName::Program => program_row(),
+            CommandName::Check => check_row(),
+            CommandName::Survey => survey_row(),
+            CommandName::Compare => compare_row(),
+            CommandName::List => list_row(),
+            CommandName::Pages => pages_row(),
+            CommandName::Picture => picture_row(),
+            CommandName::Pdf => pdf_row(),
+            CommandName::Notes => notes_row(),
+            CommandName::Plain => plain_row(),
+            CommandName::Pin => pin_row(),
+            CommandName::Explain => explain_row(),
+            CommandName::Profile => profile_commands_row(),
+            CommandName::ProfileList => profile_list_row(),
+            CommandName::ProfileNew => profile_new_row(),
+            CommandName::ProfileLint => profile_lint_row(),
+            CommandName::ProfileShow => profile_show_row(),
+            CommandName::ProfileSheet => profile_sheet_row(),
+            CommandName::ProfileFromPjl => profile_from_pjl_row(),
         }
     }
 }

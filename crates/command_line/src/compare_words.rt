@@ -77,7 +77,7 @@ Exit status, of many jobs the greatest of theirs:
   3  a read or a write failed, memory ran out, a page has too many marks, or no end after 2^40 reads";
 
 /// The words of the command `compare`.
-pub(crate) const COMPARE: &CommandRow = &CommandRow {
+const COMPARE: &CommandRow = &CommandRow {
     name: "compare",
     about: "Tells whether two jobs print the same, or how they differ",
     short_help: SHORT_HELP,
@@ -152,6 +152,11 @@ pub(crate) const COMPARE: &CommandRow = &CommandRow {
         },
     ],
 };
+
+/// The row of the command `compare`.
+pub(crate) fn compare_row() -> &'static CommandRow {
+    COMPARE
+}
 
 /// The request of the words behind `compare`, in the usual form where they ask for none; nothing
 /// where they name no printer.

@@ -8,7 +8,7 @@ use std::alloc::{AllocError, Global};
 use thiserror::Error;
 
 /// Why the words of options ask for nothing.
-#[derive(Clone, Copy, Debug, PartialEq, Eq, Drop, Error)]
+#[derive(Clone, Copy, Debug, Drop, Error)]
 pub enum ChoiceFault<'a> {
     #[error("--panel: '{0}' is not of the form FIELD=VALUE")]
     Form(&'a str),

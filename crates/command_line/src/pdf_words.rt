@@ -49,7 +49,7 @@ Exit status:
   3  a read or a write failed, memory ran out, or no end after 2^40 reads";
 
 /// The words of the command `pdf`.
-pub(crate) const PDF: &CommandRow = &CommandRow {
+const PDF: &CommandRow = &CommandRow {
     name: "pdf",
     about: "Writes the pages of a job as a PDF document, from one panel setting of a printer",
     short_help: PDF_SHORT_HELP,
@@ -84,6 +84,11 @@ pub(crate) const PDF: &CommandRow = &CommandRow {
         },
     ],
 };
+
+/// The row of the command `pdf`.
+pub(crate) fn pdf_row() -> &'static CommandRow {
+    PDF
+}
 
 /// Which pages are written.
 fn selection(found: &ArgMatches<'_>) -> Selection {

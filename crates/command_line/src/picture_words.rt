@@ -45,7 +45,7 @@ Exit status:
   3  a read or a write failed, memory ran out, or no end after 2^40 reads";
 
 /// The words of the command `picture`.
-pub(crate) const PICTURE: &CommandRow = &CommandRow {
+const PICTURE: &CommandRow = &CommandRow {
     name: "picture",
     about: "Draws a page of a job, from one panel setting of a printer",
     short_help: PICTURE_SHORT_HELP,
@@ -87,6 +87,11 @@ pub(crate) const PICTURE: &CommandRow = &CommandRow {
         },
     ],
 };
+
+/// The row of the command `picture`.
+pub(crate) fn picture_row() -> &'static CommandRow {
+    PICTURE
+}
 
 /// Which pages are drawn.
 fn drawn_pages(found: &ArgMatches<'_>) -> DrawnPages {

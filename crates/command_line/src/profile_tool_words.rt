@@ -90,7 +90,7 @@ Exit status:
   3  a text could not be read, a write failed, or memory ran out";
 
 /// The words of the command `profile lint`.
-pub(crate) const PROFILE_LINT: &CommandRow = &CommandRow {
+const PROFILE_LINT: &CommandRow = &CommandRow {
     name: "lint",
     about: "Tells all that is wrong with profiles, and gives hints",
     short_help: LINT_SHORT_HELP,
@@ -104,8 +104,13 @@ pub(crate) const PROFILE_LINT: &CommandRow = &CommandRow {
     options: &[],
 };
 
+/// The row of the command `profile lint`.
+pub(crate) fn profile_lint_row() -> &'static CommandRow {
+    PROFILE_LINT
+}
+
 /// The words of the command `profile show`.
-pub(crate) const PROFILE_SHOW: &CommandRow = &CommandRow {
+const PROFILE_SHOW: &CommandRow = &CommandRow {
     name: "show",
     about: "Shows a profile to people",
     short_help: SHOW_SHORT_HELP,
@@ -114,8 +119,13 @@ pub(crate) const PROFILE_SHOW: &CommandRow = &CommandRow {
     options: &[],
 };
 
+/// The row of the command `profile show`.
+pub(crate) fn profile_show_row() -> &'static CommandRow {
+    PROFILE_SHOW
+}
+
 /// The words of the command `profile sheet`.
-pub(crate) const PROFILE_SHEET: &CommandRow = &CommandRow {
+const PROFILE_SHEET: &CommandRow = &CommandRow {
     name: "sheet",
     about: "Writes a job to print, by which a printer is compared with its profile",
     short_help: SHEET_SHORT_HELP,
@@ -124,8 +134,13 @@ pub(crate) const PROFILE_SHEET: &CommandRow = &CommandRow {
     options: &[],
 };
 
+/// The row of the command `profile sheet`.
+pub(crate) fn profile_sheet_row() -> &'static CommandRow {
+    PROFILE_SHEET
+}
+
 /// The words of the command `profile from-pjl`.
-pub(crate) const PROFILE_FROM_PJL: &CommandRow = &CommandRow {
+const PROFILE_FROM_PJL: &CommandRow = &CommandRow {
     name: "from-pjl",
     about: "Writes the text of a profile after a printer's own answer",
     short_help: FROM_PJL_SHORT_HELP,
@@ -146,6 +161,11 @@ pub(crate) const PROFILE_FROM_PJL: &CommandRow = &CommandRow {
     ],
     options: &[],
 };
+
+/// The row of the command `profile from-pjl`.
+pub(crate) fn profile_from_pjl_row() -> &'static CommandRow {
+    PROFILE_FROM_PJL
+}
 
 /// The request of the words behind `profile`, where they name one of these commands.
 pub fn tool_request<'a>(

@@ -108,7 +108,7 @@ const FIELDS: &[&str] = &[
 ];
 
 /// The command `profile`, which others stand below.
-pub(crate) const PROFILE_COMMANDS: &CommandRow = &CommandRow {
+const PROFILE_COMMANDS: &CommandRow = &CommandRow {
     name: "profile",
     about: "Makes, checks and shows profiles of printers",
     short_help: PROFILE_SHORT_HELP,
@@ -117,8 +117,13 @@ pub(crate) const PROFILE_COMMANDS: &CommandRow = &CommandRow {
     options: &[],
 };
 
+/// The row of the command `profile`.
+pub(crate) fn profile_commands_row() -> &'static CommandRow {
+    PROFILE_COMMANDS
+}
+
 /// The words of the command `profile list`.
-pub(crate) const PROFILE_LIST: &CommandRow = &CommandRow {
+const PROFILE_LIST: &CommandRow = &CommandRow {
     name: "list",
     about: "Lists the models of which there are profiles, and their papers",
     short_help: LIST_SHORT_HELP,
@@ -127,8 +132,13 @@ pub(crate) const PROFILE_LIST: &CommandRow = &CommandRow {
     options: &[],
 };
 
+/// The row of the command `profile list`.
+pub(crate) fn profile_list_row() -> &'static CommandRow {
+    PROFILE_LIST
+}
+
 /// The words of the command `profile new`.
-pub(crate) const PROFILE_NEW: &CommandRow = &CommandRow {
+const PROFILE_NEW: &CommandRow = &CommandRow {
     name: "new",
     about: "Writes the text of a profile of a model",
     short_help: NEW_SHORT_HELP,
@@ -172,6 +182,11 @@ pub(crate) const PROFILE_NEW: &CommandRow = &CommandRow {
         },
     ],
 };
+
+/// The row of the command `profile new`.
+pub(crate) fn profile_new_row() -> &'static CommandRow {
+    PROFILE_NEW
+}
 
 /// The request of the words behind `profile`.
 pub fn profile_request<'a>(

@@ -39,7 +39,7 @@ Exit status:
   3  a job could not be read, a write failed, memory ran out, or no end after 2^40 reads";
 
 /// The words of the command `survey`.
-pub(crate) const SURVEY: &CommandRow = &CommandRow {
+const SURVEY: &CommandRow = &CommandRow {
     name: "survey",
     about: "Tells all that is refused of jobs, each kind of command once, and gives no verdict",
     short_help: SHORT_HELP,
@@ -62,6 +62,11 @@ pub(crate) const SURVEY: &CommandRow = &CommandRow {
         help: "Lines for people, or with json objects; line and words are the same",
     }],
 };
+
+/// The row of the command `survey`.
+pub(crate) fn survey_row() -> &'static CommandRow {
+    SURVEY
+}
 
 /// The request of the words behind `survey`, in the usual form where they ask for none.
 pub fn survey_request<'a>(

@@ -160,7 +160,7 @@ pub(crate) const OUT: WordRow = WordRow {
 };
 
 /// The words of the command `list`.
-pub(crate) const LIST: &CommandRow = &CommandRow {
+const LIST: &CommandRow = &CommandRow {
     name: "list",
     about: "Lists the items of a job: each command, control code and byte of text",
     short_help: LIST_SHORT_HELP,
@@ -169,8 +169,13 @@ pub(crate) const LIST: &CommandRow = &CommandRow {
     options: &[],
 };
 
+/// The row of the command `list`.
+pub(crate) fn list_row() -> &'static CommandRow {
+    LIST
+}
+
 /// The words of the command `pages`.
-pub(crate) const PAGES: &CommandRow = &CommandRow {
+const PAGES: &CommandRow = &CommandRow {
     name: "pages",
     about: "Writes what a job marks on its pages, from the first panel setting of a printer",
     short_help: PAGES_SHORT_HELP,
@@ -179,8 +184,13 @@ pub(crate) const PAGES: &CommandRow = &CommandRow {
     options: &[],
 };
 
+/// The row of the command `pages`.
+pub(crate) fn pages_row() -> &'static CommandRow {
+    PAGES
+}
+
 /// The words of the command `notes`.
-pub(crate) const NOTES: &CommandRow = &CommandRow {
+const NOTES: &CommandRow = &CommandRow {
     name: "notes",
     about: "Tells what a job leaves to a printer, though it passes",
     short_help: NOTES_SHORT_HELP,
@@ -189,8 +199,13 @@ pub(crate) const NOTES: &CommandRow = &CommandRow {
     options: &[],
 };
 
+/// The row of the command `notes`.
+pub(crate) fn notes_row() -> &'static CommandRow {
+    NOTES
+}
+
 /// The words of the command `plain`.
-pub(crate) const PLAIN: &CommandRow = &CommandRow {
+const PLAIN: &CommandRow = &CommandRow {
     name: "plain",
     about: "Writes a job again, with each item in its canonical spelling",
     short_help: PLAIN_SHORT_HELP,
@@ -199,8 +214,13 @@ pub(crate) const PLAIN: &CommandRow = &CommandRow {
     options: &[],
 };
 
+/// The row of the command `plain`.
+pub(crate) fn plain_row() -> &'static CommandRow {
+    PLAIN
+}
+
 /// The words of the command `pin`.
-pub(crate) const PIN: &CommandRow = &CommandRow {
+const PIN: &CommandRow = &CommandRow {
     name: "pin",
     about: "Writes a job again, pinned to one panel setting of a printer",
     short_help: PIN_SHORT_HELP,
@@ -215,6 +235,11 @@ pub(crate) const PIN: &CommandRow = &CommandRow {
         help: "Pins to these values of the panel; each field that is not named has its first value",
     }],
 };
+
+/// The row of the command `pin`.
+pub(crate) fn pin_row() -> &'static CommandRow {
+    PIN
+}
 
 /// The request of the words behind `pin`.
 pub fn pin_request<'a>(

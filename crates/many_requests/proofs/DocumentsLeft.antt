@@ -20,5 +20,5 @@ module _ {X : Type 0} (folder : List ℕ) (asked : Asked) (name : X → List ℕ
   pub written_all : (used : List FileUse) (err : OutletState) → length jobs ≤ i →
       WritesDocuments folder asked (map name (drop i jobs)) true used used err err
   written_all used err over =
-      subst (λ (rest : List X). WritesDocuments folder asked (map name rest) true used used err err) (sym (drop_all jobs i over))
+      subst (λ (rest : List X). WritesDocuments folder asked (map name rest) true used used err err) (sym (drop_all i jobs over))
       (refl, refl, refl)

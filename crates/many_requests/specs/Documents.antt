@@ -103,7 +103,7 @@ pub record WritesPdf (word job path : List ℕ) (well : Bool) (used used' : List
   pub well_is : well ≡ is_written status
   pub told : WritesIfSound (document_text job status note'.taken) err err'
 
--- it could not be: there is no memory, or the job's name is no text
+-- it could not be: there is no memory, the job's name is no text, or a file that is read stands there
 pub record LosesDocument (job : List ℕ) (well : Bool) (used used' : List FileUse) (err err' : OutletState)
     : Type 0 where
   pub error : Error

@@ -1,7 +1,6 @@
 //! The documents of jobs that are checked, each a file in a folder.
-ghost use Rattle.std.specs.Prelude.{◌≡◌, ◌<◌, ◌⊎◌, ◌&&◌, ◌∷◌, ◌++◌, [], IfNone, IfOk, IfSome};
-ghost use Rattle.std.specs.Prelude.{IsFalse, List, length, ℕ};
-ghost use Rattle.std.specs.Prelude.{MatchOption, None, OnOk, Some, map, option_map};
+ghost use Rattle.std.specs.Prelude.{◌≡◌, ◌⊎◌, ◌&&◌, ◌++◌, IfNone, IfOk, IfSome, IsFalse, List, ℕ};
+ghost use Rattle.std.specs.Prelude.{None, OnOk, Some, map, option_map};
 ghost use Rattle.job_rows.specs.Links.{document_path};
 ghost use Rattle.many_jobs.specs.Asked.{asked_for};
 ghost use Rattle.many_jobs.specs.JobRow.{document_in};
@@ -14,6 +13,7 @@ ghost use Rattle.many_requests.specs.Documents.{is_taken, is_written};
 ghost use Rattle.many_requests.specs.Documents.{lost_line, same_line, same_named};
 ghost use Rattle.requests.specs.Status.{error_words};
 
+use crate::drawn_jobs::is_same_file;
 use file_requests::job_texts::pdf;
 use job_reports::{push_named_first, refuse_words};
 use job_rows::{JobDocument, last_part, push_document_path};
@@ -22,6 +22,7 @@ use named_inputs::KeptText;
 use pdf_command::PdfAsked;
 use requests::{DrawnPages, PanelSetting, Selection, Status, Trouble, error_words};
 use std::alloc::{AllocError, Global};
+use std::fs;
 use std::io::Print;
 use std::rt::Files;
 use streams::{Error, FilesUsed, Outlet, write_text};
@@ -51,12 +52,10 @@ pub(crate) fn refuse_names<E: Outlet>(
 fn same_named<'n>(jobs: &[&'n [u8]]) -> Option<&'n [u8]>
     ensures { option_map (λ job. job.now) result ≡ same_named (map (λ job. job.now) jobs.now) }
 {
-    let mut rest = jobs;
-    while let Some((job, behind)) = cut_job(rest) {
-        if is_taken(job, behind) {
-            return Some(job);
+    for (at, job) in jobs.iter().enumerate() {
+        if is_taken(job, &jobs[at + 1..]) {
+            return Some(*job);
         }
-        rest = behind;
     }
     None
 }
@@ -74,18 +73,6 @@ fn ends_in_pdf(job: &[u8]) -> bool
     ensures { result ≡ ends_in_pdf job.now }
 {
     job.ends_with(b".pdf")
-}
-
-/// The first job, and those behind it.
-fn cut_job<'j, 'n>(jobs: &'j [&'n [u8]]) -> Option<(&'n [u8], &'j [&'n [u8]])>
-    ensures cut { MatchOption result (jobs.now ≡ [])
-        (λ cut. jobs.now ≡ cut.0 ∷ cut.1.now) }
-    ensures shorter { IfSome result (λ cut. length cut.1.now < length jobs.now) }
-{
-    match jobs {
-        [] => None,
-        [job, behind @ ..] => Some((*job, behind)),
-    }
 }
 
 /// Whether one of the jobs has this name.
@@ -224,7 +211,7 @@ fn write_document<R: Files + Print + AllocGlobal, E: Outlet>(
     }
     let word = word_of(many.printers, 1);
     match path_of(rt.alloc(), folder, job) {
-        Ok(path) => write_at(rt, word, job, path.as_slice(), used, stderr),
+        Ok(path) => write_at(rt, many, word, job, path.as_slice(), used, stderr),
         Err(_) => {
             tell_lost(rt.alloc(), job, Error::Memory, stderr);
             false
@@ -235,6 +222,7 @@ fn write_document<R: Files + Print + AllocGlobal, E: Outlet>(
 /// Writes the document of the job of this name to the file at a path.
 fn write_at<R: Files + Print + AllocGlobal, E: Outlet>(
     rt: &R,
+    many: &ManyJobs<'_, '_>,
     word: &str,
     job: &[u8],
     path: &[u8],
@@ -247,11 +235,77 @@ fn write_at<R: Files + Print + AllocGlobal, E: Outlet>(
         (E.state stderr.old) (E.state stderr.new) }
 {
     match as_texts(job, path) {
-        Some((name, path)) => write_pdf(rt, word, name, path, used, stderr),
+        Some((name, path)) => write_apart(rt, many, word, name, path, used, stderr),
         None => {
             tell_lost(rt.alloc(), job, Error::Read, stderr);
             false
         }
+    }
+}
+
+/// Writes the document of a job at a path to another, unless it would take the place of a file that
+/// the check reads.
+fn write_apart<R: Files + Print + AllocGlobal, E: Outlet>(
+    rt: &R,
+    many: &ManyJobs<'_, '_>,
+    word: &str,
+    job: &str,
+    path: &str,
+    used: &mut FilesUsed,
+    stderr: &mut E,
+) -> bool
+    ensures { WritesPdf word.now job.now path.now result used.old used.new
+        (E.state stderr.old) (E.state stderr.new)
+        ⊎ LosesDocument job.now result used.old used.new
+        (E.state stderr.old) (E.state stderr.new) }
+{
+    if is_read(rt, many, path) {
+        tell_lost(rt.alloc(), job.as_bytes(), Error::Write, stderr);
+        return false;
+    }
+    write_pdf(rt, word, job, path, used, stderr)
+}
+
+/// Whether a path leads to a file that the check reads. No clause can say what stands at a path.
+fn is_read<R: Files>(rt: &R, many: &ManyJobs<'_, '_>, path: &str) -> bool {
+    is_profile(rt, many.printers, path) || is_link_to_job(rt, many.jobs, path)
+}
+
+/// Whether a path leads to the profile of a printer.
+fn is_profile<R: Files>(rt: &R, printers: &[&str], path: &str) -> bool {
+    for word in printers {
+        if is_same_file(rt, path, word) {
+            return true;
+        }
+    }
+    false
+}
+
+/// Whether a path is a link to a job. A job of the path's own name ends in `.pdf`, and was refused.
+fn is_link_to_job<R: Files>(rt: &R, jobs: &[&[u8]], path: &str) -> bool {
+    is_link(rt, path) && is_job(rt, jobs, path)
+}
+
+fn is_link<R: Files>(rt: &R, path: &str) -> bool {
+    match fs::symlink_metadata(rt, path) {
+        Ok(found) => found.is_symlink(),
+        Err(_) => false,
+    }
+}
+
+fn is_job<R: Files>(rt: &R, jobs: &[&[u8]], path: &str) -> bool {
+    for job in jobs {
+        if is_at(rt, job, path) {
+            return true;
+        }
+    }
+    false
+}
+
+fn is_at<R: Files>(rt: &R, job: &[u8], path: &str) -> bool {
+    match str::from_utf8(job) {
+        Ok(name) => is_same_file(rt, path, name),
+        Err(_) => false,
     }
 }
 

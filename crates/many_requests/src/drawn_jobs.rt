@@ -125,7 +125,7 @@ fn overwritten<R: Files>(rt: &R, asked: &CompareAsked<'_, '_>, path: &str) -> Op
 }
 
 /// Whether two paths lead to one regular file.
-fn is_same_file<R: Files>(rt: &R, one: &str, other: &str) -> bool {
+pub(crate) fn is_same_file<R: Files>(rt: &R, one: &str, other: &str) -> bool {
     match (fs::metadata(rt, one), fs::metadata(rt, other)) {
         (Ok(one), Ok(other)) => {
             one.is_file() && other.is_file() && one.dev() == other.dev() && one.ino() == other.ino()

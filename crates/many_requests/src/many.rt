@@ -63,7 +63,7 @@ pub fn check_asked<R: Files + Input + Print + AllocGlobal, O: Outlet, E: Outlet>
         most_items: words.most_items,
         is_each: words.is_each,
         tells_notes: words.tells_notes,
-        telling: telling_of(alloc, words, pipes.as_slice()),
+        telling: telling_of(alloc, words, words.documents, pipes.as_slice()),
     };
     check_found(rt, words, names.as_slice(), &many, used, stdout, stderr)
 }
@@ -249,9 +249,19 @@ fn pipes_in<'n, R: Files + AllocGlobal>(
     Ok(pipes)
 }
 
-/// How it is told what came of a job, where these can be read only once.
-fn telling_of<'t>(alloc: Global, words: &ManyWords<'t>, read_once: &'t [&'t [u8]]) -> Telling<'t>
-    ensures { IsTelling (asking (map (λ text. text.now) EXPLANATIONS) words.now) (told_by result) }
+/// How it is told what came of a job, where this folder gets the documents, and these jobs can be
+/// read only once.
+fn telling_of<'t>(
+    alloc: Global,
+    words: &ManyWords<'_>,
+    documents: Option<&'t str>,
+    read_once: &'t [&'t [u8]],
+) -> Telling<'t>
+    ensures { IsTelling
+        (record (asking (map (λ text. text.now) EXPLANATIONS) words.now) {
+          documents = option_map (λ folder. folder.now) documents.entry;
+        })
+        (told_by result) }
 {
     let format = match words.form {
         Form::Line => Format::Line,
@@ -266,6 +276,6 @@ fn telling_of<'t>(alloc: Global, words: &ManyWords<'t>, read_once: &'t [&'t [u8]
         exit_zero: words.exit_zero,
         passes_unchecked: words.passes_unchecked,
         read_once,
-        documents: words.documents,
+        documents,
     }
 }

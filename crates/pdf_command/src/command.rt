@@ -113,7 +113,11 @@ pub fn pdf<
     ensures first { JudgesFirst result.status
         (T.text_of texts.old asked.now.setting.profile.now)
         (T.given texts.old) (T.given texts.new) (T.failed texts.new)
-        (first.old, job.old) (first.new, job.new) }
+        job.old job.new }
+    ensures search { JudgesFirst result.status
+        (T.text_of texts.old asked.now.setting.profile.now)
+        (T.given texts.old) (T.given texts.new) (T.failed texts.new)
+        first.old first.new }
     ensures named { T.named texts.new
         ≡ T.named texts.old ++ asked.now.setting.profile.now ∷ [] }
     ensures created { CreatesForPages result S.opens W.creates job.old out.old out.new }

@@ -12,5 +12,5 @@ returns-in-Ok g c =
     ∙ ap (λ (job : List ℕ). c.args.note.taken ++ cause_part job status) c.as_bytes.ensures.value)
     c.write_if_sound.ensures
 
-pub returns-in-Err : goal.returns-in-Err
-returns-in-Err g c = inl refl
+pub returns : goal.returns
+returns g c = inl refl

@@ -19,7 +19,7 @@ loop-job-preserved g c = λ others used' err' more.
     let all =
     λ (well : Bool). WritesDocuments c.args.folder.now asked (map (λ job. job.now) c.args.jobs.now) well c.args.used.now used'
     (g.E.Outlet.state c.args.stderr.now) err' in
-    subst (λ well. all (well && others)) (sym c.both.ensures)
+    subst (λ well. all (well && others)) (sym c.both-is_well.ensures)
     (subst all (sym (and_assoc c.loop-job.is_well one others))
     (c.loop-job.invariant (one && others) used' err'
     (written_more c.args.folder.now asked (λ job. job.now) c.args.jobs.now c.loop-job.job-index _ c.loop-job-test.true one others

@@ -1,5 +1,7 @@
 use Rattle.std.proofs.Common.{◌⊎◌, ◌∙◌, List, ℕ, false, inr, refl, subst, sym, true}
+use Rattle.job_rows.specs.Links.{document_path}
 use Rattle.many_jobs.specs.Asked.{asked_for}
+use Rattle.many_jobs.specs.JobRow.{document_in}
 use Rattle.streams.specs.declared.error.Error.TheVariants.{Memory}
 use Rattle.many_requests.specs.Documents.{LosesDocument, WritesDocumentBy, WritesPdf}
 use Rattle.many_requests.proofs.documents.write_document.Goals as goal
@@ -22,7 +24,7 @@ returns-in-Ok g c =
     (sym (sym c.is_read_once.ensures ∙ c.if-is_read_once.false))
     (subst
     (λ (word : List ℕ).
-    WritesPdf word job _ well c.args.used.now c.write_at.new.used err err'
+    WritesPdf word job (document_path (document_in c.args.folder.now job)) well c.args.used.now c.write_at.new.used err err'
     ⊎ LosesDocument job well c.args.used.now c.write_at.new.used err err')
     c.word_of-word.ensures
     (subst

@@ -151,6 +151,12 @@ returns-in-Some-clause-first g c =
     (before_refuses _ _ _ _ _ _ c.in-Some.end.lacks_page c.in-Some.end.status c.in-Some.ensures.found)
     (c.read_printer.ensures.read ∙ ap is_err_at_read c.in-Ok.is)
 
+pub returns-in-Some-clause-search : goal.returns-in-Some-clause-search
+returns-in-Some-clause-search g c =
+    judged_first c.in-Some.end.status _ _ _ _ _ _
+    (before_refuses _ _ _ _ _ _ c.in-Some.end.lacks_page c.in-Some.end.status c.in-Some.ensures.found)
+    (c.read_printer.ensures.read ∙ ap is_err_at_read c.in-Ok.is)
+
 pub returns-in-Some-clause-created : goal.returns-in-Some-clause-created
 returns-in-Some-clause-created g c = (
   inl refl,
@@ -244,6 +250,12 @@ returns-clause-ends g c =
 
 pub returns-clause-first : goal.returns-clause-first
 returns-clause-first g c =
+    judged_first c.write_pages-status.result _ _ _ _ _ _
+    (pages_refuse c.write_pages-status.result c.write_pages-status.ensures.end)
+    (c.read_printer.ensures.read ∙ ap is_err_at_read c.in-Ok.is)
+
+pub returns-clause-search : goal.returns-clause-search
+returns-clause-search g c =
     judged_first c.write_pages-status.result _ _ _ _ _ _
     (pages_refuse c.write_pages-status.result c.write_pages-status.ensures.end)
     (c.read_printer.ensures.read ∙ ap is_err_at_read c.in-Ok.is)
