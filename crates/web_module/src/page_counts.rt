@@ -43,8 +43,11 @@ pub(crate) fn page_count<A: Allocator + Copy>(
         &mut drawn,
         &mut complaint,
     );
+    let told = complaint.into_bytes();
     match status {
-        Status::Fail => Ok(Told::of_text(complaint.into_bytes())),
+        // Where the text is not told there was no memory for it.
+        Status::Fail if told.is_empty() => Err(Why::Stopped(Error::Memory)),
+        Status::Fail => Ok(Told::of_text(told)),
         Status::Profile {
             number,
             line,
