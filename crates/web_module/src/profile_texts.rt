@@ -103,7 +103,7 @@ fn lint_under<A: Allocator + Copy>(alloc: A, word: &str, profile: &[u8]) -> Resu
     ensures stops { IfErr result IsStop }
 {
     match findings_in(alloc, word, profile) {
-        Ok(Findings { lines, has_faults }) => Ok(Found { lines, has_faults }),
+        Ok(found) => Ok(found),
         Err(error) => Err(Why::from(error)),
     }
 }
@@ -112,13 +112,16 @@ fn findings_in<A: Allocator + Copy>(
     alloc: A,
     word: &str,
     profile: &[u8],
-) -> Result<Findings<A>, AllocError>
+) -> Result<Found<A>, AllocError>
     ensures { IfOk result
-        (λ found. IsFound word.now profile.now found.lines.items found.has_faults) }
+        (λ found. IsFound word.now profile.now found.lines found.has_faults) }
 {
     let text = Vec::from_slice(alloc, profile)?;
     let texts = alone(alloc, NamedText { word, text })?;
-    lint_texts(alloc, texts.as_slice())
+    match lint_texts(alloc, texts.as_slice()) {
+        Ok(Findings { lines, has_faults }) => Ok(Found { lines, has_faults }),
+        Err(error) => Err(error),
+    }
 }
 
 /// A text by itself.
