@@ -9,7 +9,7 @@ use crate::texts::texts_of;
 use crate::word::Word;
 use clap::ArgMatches;
 use requests::{Form, Request};
-use std::alloc::Global;
+use std::alloc::{AllocError, Global};
 
 pub const EXPLANATION: &str = "Examples:
   pclcheck check job.pcl front.profile back.profile
@@ -184,6 +184,13 @@ pub fn check_request<'a>(
     if asks_for_many(usual, found) {
         return Ok(read_many(alloc, given, usual, found)?.map(Request::CheckMany));
     }
+    Ok(read_check(alloc, found)?)
+}
+
+/// What words ask for that ask for one job, or nothing where they name no printer.
+fn read_check<'a>(alloc: Global, found: &ArgMatches<'a>) -> Result<Option<Request<'a>>, AllocError>
+    ensures { IfOk result (λ request. IfSome request NamesSome) }
+{
     let Some(job) = found.get_str("JOB") else {
         return Ok(None);
     };

@@ -1,5 +1,5 @@
 //! The words of the command `compare`.
-ghost use Rattle.std.specs.Prelude.{◌≢◌, ◌++◌, [], IfOk, IfSome, IsFalse};
+ghost use Rattle.std.specs.Prelude.{IfOk, IfSome};
 ghost use Rattle.requests.specs.Comparisons.{NamesCompared, NamesJobs};
 ghost use Rattle.requests.specs.Words.{NamesSome};
 
@@ -7,7 +7,7 @@ use crate::form_words::{SURVEY_FORMS, form_asked};
 use crate::nearness_words::{ALL, ANY_ORDER, MOST, WITHIN, extent_of, nearness_of};
 use crate::panel_words::ChoiceFault;
 use crate::rows::{CommandRow, Count, Need, OptionRow, Value, WordRow};
-use crate::texts::{both_texts, texts_of};
+use crate::texts::{are_none, both_texts, texts_of};
 use clap::ArgMatches;
 use requests::{CompareWords, ComparedJobs, Form, Request};
 use std::alloc::{AllocError, Global};
@@ -262,16 +262,6 @@ fn read_beside<'a>(
         extent,
         picture,
     }))
-}
-
-/// Whether words name no printer, and no text that names some.
-fn are_none(printers: &[&str], fleets: &[&str]) -> bool
-    ensures { IsFalse result → printers.now ++ fleets.now ≢ [] }
-{
-    match printers {
-        [] => fleets.is_empty(),
-        [_, ..] => false,
-    }
 }
 
 /// All words, in their order.

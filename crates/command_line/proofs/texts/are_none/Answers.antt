@@ -1,5 +1,5 @@
 use Rattle.std.proofs.Common.{ap, arith, length, length-append}
-use Rattle.command_line.proofs.compare_words.are_none.Goals as goal
+use Rattle.command_line.proofs.texts.are_none.Goals as goal
 
 pub returns-in-len1-up : goal.returns-in-len1-up
 returns-in-len1-up c no_false empty =
