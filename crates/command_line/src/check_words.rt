@@ -4,7 +4,7 @@ ghost use Rattle.requests.specs.Words.{NamesSome};
 
 use crate::many_words::{MANY_OPTIONS, asks_for_many, read_many};
 use crate::panel_words::ChoiceFault;
-use crate::rows::{CommandRow, Count, Need, WordRow};
+use crate::rows::{CommandHelp, CommandRow, Count, Need, WordRow};
 use crate::texts::texts_of;
 use crate::word::Word;
 use clap::ArgMatches;
@@ -147,8 +147,6 @@ What stands behind a FAIL is not judged.
 const CHECK: &CommandRow = &CommandRow {
     name: "check",
     about: "Checks jobs for a fleet of printers, and writes a line for each: PASS or FAIL",
-    short_help: CHECK_SHORT_HELP,
-    explanation: EXPLANATION,
     words: &[
         WordRow {
             id: "JOB",
@@ -170,6 +168,14 @@ const CHECK: &CommandRow = &CommandRow {
 /// The row of the command `check`.
 pub(crate) fn check_row() -> &'static CommandRow {
     CHECK
+}
+
+/// What help says of the command `check`.
+pub(crate) fn check_help() -> CommandHelp {
+    CommandHelp {
+        short: CHECK_SHORT_HELP,
+        explanation: EXPLANATION,
+    }
 }
 
 /// The request of the words behind `check`.

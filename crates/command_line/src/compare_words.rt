@@ -6,7 +6,7 @@ ghost use Rattle.requests.specs.Words.{NamesSome};
 use crate::form_words::{SURVEY_FORMS, form_asked};
 use crate::nearness_words::{ALL, ANY_ORDER, MOST, WITHIN, extent_of, nearness_of};
 use crate::panel_words::ChoiceFault;
-use crate::rows::{CommandRow, Count, Need, OptionRow, Value, WordRow};
+use crate::rows::{CommandHelp, CommandRow, Count, Need, OptionRow, Value, WordRow};
 use crate::texts::{are_none, both_texts, texts_of};
 use clap::ArgMatches;
 use requests::{CompareWords, ComparedJobs, Form, Request};
@@ -84,8 +84,6 @@ Exit status, of many jobs the greatest of theirs:
 const COMPARE: &CommandRow = &CommandRow {
     name: "compare",
     about: "Tells whether two jobs print the same, or how they differ",
-    short_help: SHORT_HELP,
-    explanation: EXPLANATION,
     words: &[
         WordRow {
             id: "OLD",
@@ -160,6 +158,14 @@ const COMPARE: &CommandRow = &CommandRow {
 /// The row of the command `compare`.
 pub(crate) fn compare_row() -> &'static CommandRow {
     COMPARE
+}
+
+/// What help says of the command `compare`.
+pub(crate) fn compare_help() -> CommandHelp {
+    CommandHelp {
+        short: SHORT_HELP,
+        explanation: EXPLANATION,
+    }
 }
 
 /// The request of the words behind `compare`, in the usual form where they ask for none; nothing
