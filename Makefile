@@ -1,6 +1,6 @@
 # Builds and installs pclcheck, and packs what is installed; `make help` says what there is. Needs
 # GNU make; `make build` the Rattle toolchain and Python 3.11, `make lib` cc and binutils, `make
-# dist` git, and `make deb` dpkg-dev, too.
+# web` binaryen, `make dist` git, and `make deb` dpkg-dev, too.
 
 PREFIX = /usr/local
 DESTDIR =
@@ -10,6 +10,8 @@ PROGRAM = crates/pclcheck/out/pclcheck
 PROVED = crates/pclcheck_c/out/libpclcheck_c.a
 MEMORY = crates/pclcheck_c/out/liblibc_c.a
 BUILT = crates/pclcheck_c/out/built
+# The module for a page in a browser, and the page with it.
+WEB = web/out
 SHARE = $(PREFIX)/share
 DOCUMENTS = $(SHARE)/doc/pclcheck
 LIBRARIES = $(PREFIX)/lib
@@ -69,18 +71,19 @@ ROOT = dist/deb
 
 TRIPLET = $(shell dpkg-architecture -q DEB_HOST_MULTIARCH)
 
-.PHONY: help build lib pc install uninstall dist deb program committed clean
+.PHONY: help build lib web pc install uninstall dist deb program committed clean
 
 help:
 	@echo 'make build      proves and builds the program and the library, a line for each crate'
 	@echo 'make lib        links libpclcheck.a and libpclcheck.so.0 from the built library'
+	@echo 'make web        builds the module for a page, and packs the page, in $(WEB)/'
 	@echo 'make install    puts the program and the library, their manual pages, completions,'
 	@echo '                profiles, examples and documents under PREFIX ($(PREFIX)), or'
 	@echo '                DESTDIR/PREFIX; with PACKAGES=pclcheck the program without the library'
 	@echo 'make uninstall  removes these files, and the folders of pclcheck that are then empty'
 	@echo 'make dist       packs them as dist/pclcheck-VERSION.tar.gz, with their checksums'
 	@echo 'make deb        packs them as packages for Debian, in dist/'
-	@echo 'make clean      removes dist/ and what make lib made'
+	@echo 'make clean      removes dist/ and what make lib and make web made'
 
 build:
 	@.ci/prove --program
@@ -108,6 +111,12 @@ $(BUILT)/libpclcheck.so: $(PROVED) $(MEMORY) include/pclcheck.map
 		-Wl,-z,relro,-z,now,-z,defs,-z,noexecstack $(LDFLAGS) -o $@.0 \
 		-Wl,--whole-archive $(PROVED) $(MEMORY) -Wl,--no-whole-archive
 	ln -sf libpclcheck.so.0 $@
+
+# A browser with memories of 64 bits alone reads a page that is packed without binaryen.
+web:
+	python3 web/build.py $(WEB)
+	module=$(WEB)/module.wasm; test -f $$module || module=$(WEB)/module64.wasm; \
+		python3 web/pack.py $$module $(WEB)/pclcheck.html
 
 # It says where the library is installed; without a PREFIX, from where itself lies.
 pc: program
@@ -179,4 +188,4 @@ pack-%:
 	dpkg-deb --root-owner-group --build $(ROOT) dist
 
 clean:
-	rm -rf dist $(BUILT)
+	rm -rf dist $(BUILT) $(WEB)

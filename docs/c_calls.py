@@ -91,9 +91,10 @@ def field_in_c(name: str, kind: str, structs: dict[str, str]) -> str:
     return f"{type_in_c(kind, structs)} {name}"
 
 
-def of_source(folder: Path) -> Calls:
-    """What the crate of the library says; its root comes first."""
-    paths = sorted(folder.glob("*.rt"), key=lambda path: (path.name != "lib.rt", path.name))
+def of_source(*folders: Path) -> Calls:
+    """What the crate of the library and those that it hands on say; each root comes first."""
+    paths = [path for folder in folders for path
+             in sorted(folder.glob("*.rt"), key=lambda path: (path.name != "lib.rt", path.name))]
     text = "\n".join(path.read_text(encoding="utf-8") for path in paths)
     numbers = {name: int(number) for name, number
                in re.findall(r"^pub const ([A-Z_]+): u32 = (\d+);", text, re.M)}

@@ -23,7 +23,7 @@ import c_calls                                                         # noqa: E
 from c_calls import Call, Calls                                        # noqa: E402
 
 ROOT = Path(__file__).resolve().parent.parent
-SOURCE = ROOT / "crates" / "pclcheck_c" / "src"
+SOURCES = [ROOT / "crates" / name / "src" for name in ("pclcheck_c", "foreign_calls")]
 HEADER = ROOT / "include" / "pclcheck.h"
 EXPORTED = ROOT / "include" / "pclcheck.map"
 PAGE = ROOT / "man" / "pclcheck.3"
@@ -129,7 +129,7 @@ def of_module(header: Calls) -> Iterator[str]:
 
 
 def main() -> int:
-    source, header = c_calls.of_source(SOURCE), c_calls.of_header(HEADER)
+    source, header = c_calls.of_source(*SOURCES), c_calls.of_header(HEADER)
     wrong = [*of_header(source, header), *of_page(header), *of_exported(header),
              *of_module(header)]
     for line in wrong:

@@ -13,7 +13,9 @@ from tree import Tree, Unreadable
 
 TEXTS = "crates/command_names/src/{}.rt"
 HEAD = re.compile(r"(\S+) (.+) \((.+)\): (taken|refused)")
-FILES = ("controls", "layout", "fonts", "drawing", "frames", "job_lines")
+FILES = ("controls", "places", "pages", "jobs", "fonts", "raster_rows", "rectangles", "devices",
+         "rasters", "colours", "frames_to_d", "frames_to_l", "frames_to_p", "frames_to_w",
+         "job_lines")
 # How the table of DEFINITIONS spells what has no spelling of a command with a number.
 SPELLED = {"*rB": "*r#B", "*rC": "*r#C"}
 # What these do not take is refused by another form of them: what is told of their values.

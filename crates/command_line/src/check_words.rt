@@ -4,12 +4,12 @@ ghost use Rattle.requests.specs.Words.{NamesSome};
 
 use crate::many_words::{MANY_OPTIONS, asks_for_many, read_many};
 use crate::panel_words::ChoiceFault;
-use crate::rows::{CommandRow, Count, Need, WordRow};
+use crate::rows::{CommandHelp, CommandRow, Count, Need, WordRow};
 use crate::texts::texts_of;
 use crate::word::Word;
 use clap::ArgMatches;
 use requests::{Form, Request};
-use std::alloc::Global;
+use std::alloc::{AllocError, Global};
 
 pub const EXPLANATION: &str = "Examples:
   pclcheck check job.pcl front.profile back.profile
@@ -147,8 +147,6 @@ What stands behind a FAIL is not judged.
 const CHECK: &CommandRow = &CommandRow {
     name: "check",
     about: "Checks jobs for a fleet of printers, and writes a line for each: PASS or FAIL",
-    short_help: CHECK_SHORT_HELP,
-    explanation: EXPLANATION,
     words: &[
         WordRow {
             id: "JOB",
@@ -172,6 +170,14 @@ pub(crate) fn check_row() -> &'static CommandRow {
     CHECK
 }
 
+/// What help says of the command `check`.
+pub(crate) fn check_help() -> CommandHelp {
+    CommandHelp {
+        short: CHECK_SHORT_HELP,
+        explanation: EXPLANATION,
+    }
+}
+
 /// The request of the words behind `check`.
 pub fn check_request<'a>(
     alloc: Global,
@@ -184,6 +190,13 @@ pub fn check_request<'a>(
     if asks_for_many(usual, found) {
         return Ok(read_many(alloc, given, usual, found)?.map(Request::CheckMany));
     }
+    Ok(read_check(alloc, found)?)
+}
+
+/// What words ask for that ask for one job, or nothing where they name no printer.
+fn read_check<'a>(alloc: Global, found: &ArgMatches<'a>) -> Result<Option<Request<'a>>, AllocError>
+    ensures { IfOk result (λ request. IfSome request NamesSome) }
+{
     let Some(job) = found.get_str("JOB") else {
         return Ok(None);
     };

@@ -1,17 +1,24 @@
 //! The commands by their rows, and the command line that they make up.
 
-use crate::check_words::{EXPLANATION, check_row};
-use crate::compare_words::compare_row;
+use crate::check_words::{EXPLANATION, check_help, check_row};
+use crate::compare_words::{compare_help, compare_row};
 use crate::form_words::FORMAT;
-use crate::pdf_words::pdf_row;
-use crate::picture_words::picture_row;
+use crate::pdf_words::{pdf_help, pdf_row};
+use crate::picture_words::{picture_help, picture_row};
 use crate::profile_tool_words::{
-    profile_from_pjl_row, profile_lint_row, profile_sheet_row, profile_show_row,
+    profile_from_pjl_help, profile_from_pjl_row, profile_lint_help, profile_lint_row,
+    profile_sheet_help, profile_sheet_row, profile_show_help, profile_show_row,
 };
-use crate::profile_words::{profile_commands_row, profile_list_row, profile_new_row};
-use crate::rows::{CommandRow, Count, Need, WordRow};
-use crate::survey_words::survey_row;
-use crate::text_commands::{list_row, notes_row, pages_row, pin_row, plain_row};
+use crate::profile_words::{
+    profile_commands_help, profile_commands_row, profile_list_help, profile_list_row,
+    profile_new_help, profile_new_row,
+};
+use crate::rows::{CommandHelp, CommandRow, Count, Need, WordRow};
+use crate::survey_words::{survey_help, survey_row};
+use crate::text_commands::{
+    list_help, list_row, notes_help, notes_row, pages_help, pages_row, pin_help, pin_row,
+    plain_help, plain_row,
+};
 use crate::word::Word;
 use clap::Command;
 use std::alloc::{AllocError, Global};
@@ -60,8 +67,6 @@ const PROGRAM_SHORT_HELP: &str = "Usage: pclcheck <COMMAND>
 const PROGRAM: &CommandRow = &CommandRow {
     name: "pclcheck",
     about: "A preflight checker for PCL 5 print jobs",
-    short_help: PROGRAM_SHORT_HELP,
-    explanation: EXPLANATION,
     words: &[],
     options: &[FORMAT],
 };
@@ -71,13 +76,19 @@ fn program_row() -> &'static CommandRow {
     PROGRAM
 }
 
+/// What help says of the program.
+fn program_help() -> CommandHelp {
+    CommandHelp {
+        short: PROGRAM_SHORT_HELP,
+        explanation: EXPLANATION,
+    }
+}
+
 /// The words of the command `explain`.
 const EXPLAIN: &CommandRow = &CommandRow {
     name: "explain",
     about: "Tells when a fault, finding or note comes, and what to change in the job or the \
         profile",
-    short_help: EXPLAIN_SHORT_HELP,
-    explanation: EXPLAIN_EXPLANATION,
     words: &[WordRow {
         id: "CODE",
         need: Need::Never,
@@ -90,6 +101,14 @@ const EXPLAIN: &CommandRow = &CommandRow {
 /// The row of the command `explain`.
 fn explain_row() -> &'static CommandRow {
     EXPLAIN
+}
+
+/// What help says of the command `explain`.
+fn explain_help() -> CommandHelp {
+    CommandHelp {
+        short: EXPLAIN_SHORT_HELP,
+        explanation: EXPLAIN_EXPLANATION,
+    }
 }
 
 /// The program or one of its commands, by which its row is found.
@@ -167,6 +186,35 @@ impl CommandName {
             CommandName::ProfileFromPjl => profile_from_pjl_row(),
         }
     }
+
+    /// What help says of the command beside its row.
+    pub(crate) fn help(self) -> CommandHelp {
+        match self {
+            CommandName::Program => program_help(),
+            CommandName::Check => check_help(),
+            CommandName::Survey => survey_help(),
+            CommandName::Compare => compare_help(),
+            CommandName::List => list_help(),
+            CommandName::Pages => pages_help(),
+            CommandName::Picture => picture_help(),
+            CommandName::Pdf => pdf_help(),
+            CommandName::Notes => notes_help(),
+            CommandName::Plain => plain_help(),
+            CommandName::Pin => pin_help(),
+            CommandName::Explain => explain_help(),
+            CommandName::Profile => profile_commands_help(),
+            CommandName::ProfileList => profile_list_help(),
+            CommandName::ProfileNew => profile_new_help(),
+            CommandName::ProfileLint => profile_lint_help(),
+            CommandName::ProfileShow => profile_show_help(),
+            CommandName::ProfileSheet => profile_sheet_help(),
+            CommandName::ProfileFromPjl => profile_from_pjl_help(),
+        }
+    }
+
+    fn command<'a>(self, alloc: Global) -> Result<Command<'a>, AllocError> {
+        self.row().command(alloc, self.help().explanation)
+    }
 }
 
 /// The command that words are about, of which the first is the program's own name; the program
@@ -210,13 +258,13 @@ pub(crate) fn command<'a>(alloc: Global) -> Result<Command<'a>, AllocError> {
 
 /// The program without its commands.
 fn program<'a>(alloc: Global) -> Result<Command<'a>, AllocError> {
-    let program = CommandName::Program.row().command(alloc)?;
+    let program = CommandName::Program.command(alloc)?;
     Ok(program.version(VERSION).subcommand_required(true))
 }
 
 /// The command `profile` with those below it.
 fn profile_command<'a>(alloc: Global) -> Result<Command<'a>, AllocError> {
-    let profile = CommandName::Profile.row().command(alloc)?;
+    let profile = CommandName::Profile.command(alloc)?;
     with_commands(alloc, profile.subcommand_required(true), BELOW_PROFILE)
 }
 
@@ -227,7 +275,7 @@ fn with_commands<'a>(
     names: &[CommandName],
 ) -> Result<Command<'a>, AllocError> {
     for name in names {
-        command = with_command(command, name.row().command(alloc))?;
+        command = with_command(command, name.command(alloc))?;
     }
     Ok(command)
 }

@@ -1,13 +1,13 @@
 //! The words of the command `compare`.
-ghost use Rattle.std.specs.Prelude.{◌≢◌, ◌++◌, [], IfOk, IfSome, IsFalse};
+ghost use Rattle.std.specs.Prelude.{IfOk, IfSome};
 ghost use Rattle.requests.specs.Comparisons.{NamesCompared, NamesJobs};
 ghost use Rattle.requests.specs.Words.{NamesSome};
 
 use crate::form_words::{SURVEY_FORMS, form_asked};
 use crate::nearness_words::{ALL, ANY_ORDER, MOST, WITHIN, extent_of, nearness_of};
 use crate::panel_words::ChoiceFault;
-use crate::rows::{CommandRow, Count, Need, OptionRow, Value, WordRow};
-use crate::texts::{both_texts, texts_of};
+use crate::rows::{CommandHelp, CommandRow, Count, Need, OptionRow, Value, WordRow};
+use crate::texts::{are_none, both_texts, texts_of};
 use clap::ArgMatches;
 use requests::{CompareWords, ComparedJobs, Form, Request};
 use std::alloc::{AllocError, Global};
@@ -84,8 +84,6 @@ Exit status, of many jobs the greatest of theirs:
 const COMPARE: &CommandRow = &CommandRow {
     name: "compare",
     about: "Tells whether two jobs print the same, or how they differ",
-    short_help: SHORT_HELP,
-    explanation: EXPLANATION,
     words: &[
         WordRow {
             id: "OLD",
@@ -160,6 +158,14 @@ const COMPARE: &CommandRow = &CommandRow {
 /// The row of the command `compare`.
 pub(crate) fn compare_row() -> &'static CommandRow {
     COMPARE
+}
+
+/// What help says of the command `compare`.
+pub(crate) fn compare_help() -> CommandHelp {
+    CommandHelp {
+        short: SHORT_HELP,
+        explanation: EXPLANATION,
+    }
 }
 
 /// The request of the words behind `compare`, in the usual form where they ask for none; nothing
@@ -262,16 +268,6 @@ fn read_beside<'a>(
         extent,
         picture,
     }))
-}
-
-/// Whether words name no printer, and no text that names some.
-fn are_none(printers: &[&str], fleets: &[&str]) -> bool
-    ensures { IsFalse result → printers.now ++ fleets.now ≢ [] }
-{
-    match printers {
-        [] => fleets.is_empty(),
-        [_, ..] => false,
-    }
 }
 
 /// All words, in their order.

@@ -1,9 +1,10 @@
 //! The words of a check of many jobs.
-ghost use Rattle.std.specs.Prelude.{IfOk, IfSome};
+ghost use Rattle.std.specs.Prelude.{◌≢◌, ◌++◌, [], IfOk, IfSome};
 ghost use Rattle.requests.specs.ManyWords.{NamesPrinter};
 
 use crate::form_words::{FORMS, form_asked};
 use crate::rows::{OptionRow, Value};
+use crate::texts::{are_none, texts_of};
 use crate::word::{Word, bytes_of};
 use clap::ArgMatches;
 use requests::{Form, ManyWords};
@@ -123,13 +124,25 @@ pub(crate) const MANY_OPTIONS: &[OptionRow] = &[
 pub(crate) fn asks_for_many(usual: Form, found: &ArgMatches<'_>) -> bool {
     names_printers(found)
         || usual != Form::Line
-        || found.contains_id("FORM")
+        || has_value_of_many(found)
+        || has_flag_of_many(found)
+}
+
+/// Whether an option with a value comes that asks for it.
+fn has_value_of_many(found: &ArgMatches<'_>) -> bool {
+    found.contains_id("FORM")
         || found.contains_id("MOST")
         || found.contains_id("COUNT")
         || found.contains_id("PDF")
-        || ["EACH", "EMPTY", "NOTES", "EXPLAIN", "ZERO"]
-            .iter()
-            .any(|option| found.get_flag(option))
+}
+
+/// Whether an option without a value comes that asks for it.
+fn has_flag_of_many(found: &ArgMatches<'_>) -> bool {
+    found.get_flag("EACH")
+        || found.get_flag("EMPTY")
+        || found.get_flag("NOTES")
+        || found.get_flag("EXPLAIN")
+        || found.get_flag("ZERO")
 }
 
 /// Whether printers come by options, so that every word is a job.
@@ -146,24 +159,53 @@ pub(crate) fn read_many<'a>(
 ) -> Result<Option<ManyWords<'a>>, AllocError>
     ensures { IfOk result (λ many. IfSome many NamesPrinter) }
 {
+    let jobs = jobs_of(alloc, given, found)?;
+    let printers = printers_of(alloc, found)?;
+    let fleets = texts_of(alloc, found, "FLEET")?;
+    if are_none(printers.as_slice(), fleets.as_slice()) {
+        return Ok(None);
+    }
+    Ok(Some(many_words(usual, found, jobs, printers, fleets)))
+}
+
+/// The jobs that words name.
+fn jobs_of<'a>(
+    alloc: Global,
+    given: &'a [Word],
+    found: &ArgMatches<'a>,
+) -> Result<Vec<&'a [u8]>, AllocError> {
     let mut jobs = Vec::new(alloc);
-    let mut printers = Vec::new(alloc);
     if let Some(job) = found.get_str("JOB") {
         jobs.push(bytes_of(given, job))?;
     }
-    let words = found.get_strs("PROFILE").unwrap_or(&[]);
     if names_printers(found) {
-        push_jobs(&mut jobs, given, words)?;
-        printers.extend_from_slice(found.get_strs("PRINTER").unwrap_or(&[]))?;
+        push_jobs(&mut jobs, given, found.get_strs("PROFILE").unwrap_or(&[]))?;
+    }
+    Ok(jobs)
+}
+
+/// The printers that words name.
+fn printers_of<'a>(alloc: Global, found: &ArgMatches<'a>) -> Result<Vec<&'a str>, AllocError> {
+    let id = if names_printers(found) {
+        "PRINTER"
     } else {
-        printers.extend_from_slice(words)?;
-    }
-    let mut fleets = Vec::new(alloc);
-    fleets.extend_from_slice(found.get_strs("FLEET").unwrap_or(&[]))?;
-    if printers.is_empty() && fleets.is_empty() {
-        return Ok(None);
-    }
-    Ok(Some(ManyWords {
+        "PROFILE"
+    };
+    texts_of(alloc, found, id)
+}
+
+/// What words ask for of these jobs, for these printers and those of these fleets.
+fn many_words<'a>(
+    usual: Form,
+    found: &ArgMatches<'a>,
+    jobs: Vec<&'a [u8]>,
+    printers: Vec<&'a str>,
+    fleets: Vec<&'a str>,
+) -> ManyWords<'a>
+    requires { printers.items ++ fleets.items ≢ [] }
+    ensures { NamesPrinter result }
+{
+    ManyWords {
         jobs,
         names_from: found.get_str("NAMES"),
         allows_empty: found.get_flag("EMPTY"),
@@ -177,7 +219,7 @@ pub(crate) fn read_many<'a>(
         form: form_asked(found).unwrap_or(usual),
         explains: found.get_flag("EXPLAIN"),
         documents: found.get_str("PDF"),
-    }))
+    }
 }
 
 /// Whether a job that pclcheck cannot judge counts as one that passes.

@@ -3,7 +3,7 @@ ghost use Rattle.std.specs.Prelude.{IfOk, IfSome};
 ghost use Rattle.requests.specs.Words.{NamesSome};
 
 use crate::panel_words::{ChoiceFault, choices_of};
-use crate::rows::{CommandRow, OptionRow, Value};
+use crate::rows::{CommandHelp, CommandRow, OptionRow, Value};
 use crate::text_commands::{JOB, OUT, PROFILE};
 use crate::texts::both_texts;
 use clap::ArgMatches;
@@ -52,8 +52,6 @@ Exit status:
 const PDF: &CommandRow = &CommandRow {
     name: "pdf",
     about: "Writes the pages of a job as a PDF document, from one panel setting of a printer",
-    short_help: PDF_SHORT_HELP,
-    explanation: PDF_EXPLANATION,
     words: &[JOB, PROFILE, OUT],
     options: &[
         OptionRow {
@@ -88,6 +86,14 @@ const PDF: &CommandRow = &CommandRow {
 /// The row of the command `pdf`.
 pub(crate) fn pdf_row() -> &'static CommandRow {
     PDF
+}
+
+/// What help says of the command `pdf`.
+pub(crate) fn pdf_help() -> CommandHelp {
+    CommandHelp {
+        short: PDF_SHORT_HELP,
+        explanation: PDF_EXPLANATION,
+    }
 }
 
 /// Which pages are written.

@@ -3,7 +3,7 @@ ghost use Rattle.std.specs.Prelude.{IfOk, IfSome};
 ghost use Rattle.requests.specs.Words.{NamesSome};
 
 use crate::panel_words::{ChoiceFault, choices_of};
-use crate::rows::{CommandRow, OptionRow, Value};
+use crate::rows::{CommandHelp, CommandRow, OptionRow, Value};
 use crate::text_commands::{JOB, PROFILE};
 use crate::texts::both_texts;
 use clap::ArgMatches;
@@ -48,8 +48,6 @@ Exit status:
 const PICTURE: &CommandRow = &CommandRow {
     name: "picture",
     about: "Draws a page of a job, from one panel setting of a printer",
-    short_help: PICTURE_SHORT_HELP,
-    explanation: PICTURE_EXPLANATION,
     words: &[JOB, PROFILE],
     options: &[
         OptionRow {
@@ -91,6 +89,14 @@ const PICTURE: &CommandRow = &CommandRow {
 /// The row of the command `picture`.
 pub(crate) fn picture_row() -> &'static CommandRow {
     PICTURE
+}
+
+/// What help says of the command `picture`.
+pub(crate) fn picture_help() -> CommandHelp {
+    CommandHelp {
+        short: PICTURE_SHORT_HELP,
+        explanation: PICTURE_EXPLANATION,
+    }
 }
 
 /// Which pages are drawn.

@@ -2,7 +2,7 @@
 ghost use Rattle.std.specs.Prelude.{IfOk, IfSome};
 ghost use Rattle.requests.specs.Words.{NamesSome};
 
-use crate::rows::{CommandRow, Count, Need, WordRow};
+use crate::rows::{CommandHelp, CommandRow, Count, Need, WordRow};
 use crate::text_commands::{OUT, PROFILE};
 use crate::texts::{both_texts, texts_of};
 use clap::ArgMatches;
@@ -93,8 +93,6 @@ Exit status:
 const PROFILE_LINT: &CommandRow = &CommandRow {
     name: "lint",
     about: "Tells all that is wrong with profiles, and gives hints",
-    short_help: LINT_SHORT_HELP,
-    explanation: LINT_EXPLANATION,
     words: &[WordRow {
         id: "PROFILE",
         need: Need::Always,
@@ -109,12 +107,18 @@ pub(crate) fn profile_lint_row() -> &'static CommandRow {
     PROFILE_LINT
 }
 
+/// What help says of the command `profile lint`.
+pub(crate) fn profile_lint_help() -> CommandHelp {
+    CommandHelp {
+        short: LINT_SHORT_HELP,
+        explanation: LINT_EXPLANATION,
+    }
+}
+
 /// The words of the command `profile show`.
 const PROFILE_SHOW: &CommandRow = &CommandRow {
     name: "show",
     about: "Shows a profile to people",
-    short_help: SHOW_SHORT_HELP,
-    explanation: SHOW_EXPLANATION,
     words: &[PROFILE],
     options: &[],
 };
@@ -124,12 +128,18 @@ pub(crate) fn profile_show_row() -> &'static CommandRow {
     PROFILE_SHOW
 }
 
+/// What help says of the command `profile show`.
+pub(crate) fn profile_show_help() -> CommandHelp {
+    CommandHelp {
+        short: SHOW_SHORT_HELP,
+        explanation: SHOW_EXPLANATION,
+    }
+}
+
 /// The words of the command `profile sheet`.
 const PROFILE_SHEET: &CommandRow = &CommandRow {
     name: "sheet",
     about: "Writes a job to print, by which a printer is compared with its profile",
-    short_help: SHEET_SHORT_HELP,
-    explanation: SHEET_EXPLANATION,
     words: &[PROFILE, OUT],
     options: &[],
 };
@@ -139,12 +149,18 @@ pub(crate) fn profile_sheet_row() -> &'static CommandRow {
     PROFILE_SHEET
 }
 
+/// What help says of the command `profile sheet`.
+pub(crate) fn profile_sheet_help() -> CommandHelp {
+    CommandHelp {
+        short: SHEET_SHORT_HELP,
+        explanation: SHEET_EXPLANATION,
+    }
+}
+
 /// The words of the command `profile from-pjl`.
 const PROFILE_FROM_PJL: &CommandRow = &CommandRow {
     name: "from-pjl",
     about: "Writes the text of a profile after a printer's own answer",
-    short_help: FROM_PJL_SHORT_HELP,
-    explanation: FROM_PJL_EXPLANATION,
     words: &[
         WordRow {
             id: "ANSWER",
@@ -165,6 +181,14 @@ const PROFILE_FROM_PJL: &CommandRow = &CommandRow {
 /// The row of the command `profile from-pjl`.
 pub(crate) fn profile_from_pjl_row() -> &'static CommandRow {
     PROFILE_FROM_PJL
+}
+
+/// What help says of the command `profile from-pjl`.
+pub(crate) fn profile_from_pjl_help() -> CommandHelp {
+    CommandHelp {
+        short: FROM_PJL_SHORT_HELP,
+        explanation: FROM_PJL_EXPLANATION,
+    }
 }
 
 /// The request of the words behind `profile`, where they name one of these commands.

@@ -3,7 +3,7 @@ ghost use Rattle.std.specs.Prelude.{IfOk, IfSome};
 ghost use Rattle.requests.specs.Words.{NamesSome};
 
 use crate::profile_tool_words::tool_request;
-use crate::rows::{CommandRow, Count, Need, OptionRow, Value, WordRow};
+use crate::rows::{CommandHelp, CommandRow, Count, Need, OptionRow, Value, WordRow};
 use crate::texts::texts_of;
 use clap::ArgMatches;
 use printer_models::{FixedFields, PanelLists};
@@ -111,8 +111,6 @@ const FIELDS: &[&str] = &[
 const PROFILE_COMMANDS: &CommandRow = &CommandRow {
     name: "profile",
     about: "Makes, checks and shows profiles of printers",
-    short_help: PROFILE_SHORT_HELP,
-    explanation: PROFILE_EXPLANATION,
     words: &[],
     options: &[],
 };
@@ -122,12 +120,18 @@ pub(crate) fn profile_commands_row() -> &'static CommandRow {
     PROFILE_COMMANDS
 }
 
+/// What help says of the command `profile`.
+pub(crate) fn profile_commands_help() -> CommandHelp {
+    CommandHelp {
+        short: PROFILE_SHORT_HELP,
+        explanation: PROFILE_EXPLANATION,
+    }
+}
+
 /// The words of the command `profile list`.
 const PROFILE_LIST: &CommandRow = &CommandRow {
     name: "list",
     about: "Lists the models of which there are profiles, and their papers",
-    short_help: LIST_SHORT_HELP,
-    explanation: LIST_EXPLANATION,
     words: &[],
     options: &[],
 };
@@ -137,12 +141,18 @@ pub(crate) fn profile_list_row() -> &'static CommandRow {
     PROFILE_LIST
 }
 
+/// What help says of the command `profile list`.
+pub(crate) fn profile_list_help() -> CommandHelp {
+    CommandHelp {
+        short: LIST_SHORT_HELP,
+        explanation: LIST_EXPLANATION,
+    }
+}
+
 /// The words of the command `profile new`.
 const PROFILE_NEW: &CommandRow = &CommandRow {
     name: "new",
     about: "Writes the text of a profile of a model",
-    short_help: NEW_SHORT_HELP,
-    explanation: NEW_EXPLANATION,
     words: &[WordRow {
         id: "MODEL",
         need: Need::Always,
@@ -186,6 +196,14 @@ const PROFILE_NEW: &CommandRow = &CommandRow {
 /// The row of the command `profile new`.
 pub(crate) fn profile_new_row() -> &'static CommandRow {
     PROFILE_NEW
+}
+
+/// What help says of the command `profile new`.
+pub(crate) fn profile_new_help() -> CommandHelp {
+    CommandHelp {
+        short: NEW_SHORT_HELP,
+        explanation: NEW_EXPLANATION,
+    }
 }
 
 /// The request of the words behind `profile`.

@@ -9,12 +9,18 @@ pub(crate) struct CommandRow {
     pub name: &'static str,
     /// What it does.
     pub about: &'static str,
-    /// What `-h` writes below that, fifteen lines at most: how it is used mostly.
-    pub short_help: &'static str,
-    /// What help says below all else.
-    pub explanation: &'static str,
     pub words: &'static [WordRow],
     pub options: &'static [OptionRow],
+}
+
+/// What help says of a command beside its row. It stands apart, since a proof takes long over the
+/// texts of one constant, the longer the more of them there are.
+#[derive(Clone, Copy)]
+pub(crate) struct CommandHelp {
+    /// What `-h` writes below what the command does, fifteen lines at most: how it is used mostly.
+    pub short: &'static str,
+    /// What help says below all else.
+    pub explanation: &'static str,
 }
 
 /// A word that a command takes by its place.
@@ -79,11 +85,15 @@ pub(crate) enum Value {
 }
 
 impl CommandRow {
-    /// The command, with its words and then its options.
-    pub(crate) fn command<'a>(&self, alloc: Global) -> Result<Command<'a>, AllocError> {
+    /// The command, with its words and then its options, and what help says below all else.
+    pub(crate) fn command<'a>(
+        &self,
+        alloc: Global,
+        explanation: &'static str,
+    ) -> Result<Command<'a>, AllocError> {
         let command = Command::new(alloc, self.name)
             .about(self.about)
-            .after_help(self.explanation);
+            .after_help(explanation);
         let command = with_words(alloc, command, self.words)?;
         with_options(alloc, command, self.options)
     }

@@ -3,7 +3,7 @@ ghost use Rattle.std.specs.Prelude.{IfOk, IfSome};
 ghost use Rattle.requests.specs.Words.{NamesSome};
 
 use crate::form_words::{SURVEY_FORMS, form_asked};
-use crate::rows::{CommandRow, Count, Need, OptionRow, Value, WordRow};
+use crate::rows::{CommandHelp, CommandRow, Count, Need, OptionRow, Value, WordRow};
 use crate::texts::texts_of;
 use clap::ArgMatches;
 use requests::{Form, Request};
@@ -42,8 +42,6 @@ Exit status:
 const SURVEY: &CommandRow = &CommandRow {
     name: "survey",
     about: "Tells all that is refused of jobs, each kind of command once, and gives no verdict",
-    short_help: SHORT_HELP,
-    explanation: EXPLANATION,
     words: &[WordRow {
         id: "JOB",
         need: Need::Always,
@@ -66,6 +64,14 @@ const SURVEY: &CommandRow = &CommandRow {
 /// The row of the command `survey`.
 pub(crate) fn survey_row() -> &'static CommandRow {
     SURVEY
+}
+
+/// What help says of the command `survey`.
+pub(crate) fn survey_help() -> CommandHelp {
+    CommandHelp {
+        short: SHORT_HELP,
+        explanation: EXPLANATION,
+    }
 }
 
 /// The request of the words behind `survey`, in the usual form where they ask for none.

@@ -3,7 +3,7 @@ ghost use Rattle.std.specs.Prelude.{IfOk, IfSome};
 ghost use Rattle.requests.specs.Words.{NamesSome};
 
 use crate::panel_words::{ChoiceFault, choices_of};
-use crate::rows::{CommandRow, Count, Need, OptionRow, Value, WordRow};
+use crate::rows::{CommandHelp, CommandRow, Count, Need, OptionRow, Value, WordRow};
 use crate::texts::both_texts;
 use clap::ArgMatches;
 use requests::Request;
@@ -163,8 +163,6 @@ pub(crate) const OUT: WordRow = WordRow {
 const LIST: &CommandRow = &CommandRow {
     name: "list",
     about: "Lists the items of a job: each command, control code and byte of text",
-    short_help: LIST_SHORT_HELP,
-    explanation: LIST_EXPLANATION,
     words: &[JOB],
     options: &[],
 };
@@ -174,12 +172,18 @@ pub(crate) fn list_row() -> &'static CommandRow {
     LIST
 }
 
+/// What help says of the command `list`.
+pub(crate) fn list_help() -> CommandHelp {
+    CommandHelp {
+        short: LIST_SHORT_HELP,
+        explanation: LIST_EXPLANATION,
+    }
+}
+
 /// The words of the command `pages`.
 const PAGES: &CommandRow = &CommandRow {
     name: "pages",
     about: "Writes what a job marks on its pages, from the first panel setting of a printer",
-    short_help: PAGES_SHORT_HELP,
-    explanation: PAGES_EXPLANATION,
     words: &[JOB, PROFILE],
     options: &[],
 };
@@ -189,12 +193,18 @@ pub(crate) fn pages_row() -> &'static CommandRow {
     PAGES
 }
 
+/// What help says of the command `pages`.
+pub(crate) fn pages_help() -> CommandHelp {
+    CommandHelp {
+        short: PAGES_SHORT_HELP,
+        explanation: PAGES_EXPLANATION,
+    }
+}
+
 /// The words of the command `notes`.
 const NOTES: &CommandRow = &CommandRow {
     name: "notes",
     about: "Tells what a job leaves to a printer, though it passes",
-    short_help: NOTES_SHORT_HELP,
-    explanation: NOTES_EXPLANATION,
     words: &[JOB, PROFILE],
     options: &[],
 };
@@ -204,12 +214,18 @@ pub(crate) fn notes_row() -> &'static CommandRow {
     NOTES
 }
 
+/// What help says of the command `notes`.
+pub(crate) fn notes_help() -> CommandHelp {
+    CommandHelp {
+        short: NOTES_SHORT_HELP,
+        explanation: NOTES_EXPLANATION,
+    }
+}
+
 /// The words of the command `plain`.
 const PLAIN: &CommandRow = &CommandRow {
     name: "plain",
     about: "Writes a job again, with each item in its canonical spelling",
-    short_help: PLAIN_SHORT_HELP,
-    explanation: PLAIN_EXPLANATION,
     words: &[JOB, OUT],
     options: &[],
 };
@@ -219,12 +235,18 @@ pub(crate) fn plain_row() -> &'static CommandRow {
     PLAIN
 }
 
+/// What help says of the command `plain`.
+pub(crate) fn plain_help() -> CommandHelp {
+    CommandHelp {
+        short: PLAIN_SHORT_HELP,
+        explanation: PLAIN_EXPLANATION,
+    }
+}
+
 /// The words of the command `pin`.
 const PIN: &CommandRow = &CommandRow {
     name: "pin",
     about: "Writes a job again, pinned to one panel setting of a printer",
-    short_help: PIN_SHORT_HELP,
-    explanation: PIN_EXPLANATION,
     words: &[JOB, PROFILE, OUT],
     options: &[OptionRow {
         id: "PANEL",
@@ -239,6 +261,14 @@ const PIN: &CommandRow = &CommandRow {
 /// The row of the command `pin`.
 pub(crate) fn pin_row() -> &'static CommandRow {
     PIN
+}
+
+/// What help says of the command `pin`.
+pub(crate) fn pin_help() -> CommandHelp {
+    CommandHelp {
+        short: PIN_SHORT_HELP,
+        explanation: PIN_EXPLANATION,
+    }
 }
 
 /// The request of the words behind `pin`.

@@ -1,4 +1,5 @@
 //! Texts that words give.
+ghost use Rattle.std.specs.Prelude.{◌≢◌, ◌++◌, [], IsFalse};
 
 use clap::ArgMatches;
 use std::alloc::{AllocError, Global};
@@ -21,4 +22,14 @@ pub(crate) fn both_texts<'a>(
     second: &str,
 ) -> Option<(&'a str, &'a str)> {
     Some((found.get_str(first)?, found.get_str(second)?))
+}
+
+/// Whether words name no printer, and no text that names some.
+pub(crate) fn are_none(printers: &[&str], fleets: &[&str]) -> bool
+    ensures { IsFalse result → printers.now ++ fleets.now ≢ [] }
+{
+    match printers {
+        [] => fleets.is_empty(),
+        [_, ..] => false,
+    }
 }

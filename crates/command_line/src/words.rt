@@ -320,11 +320,10 @@ fn write_short_help<O: Outlet>(name: CommandName, stdout: &mut O) -> Status
     ensures end { IsEndOfWords result }
     ensures no_usage { result ≢ Status.Usage }
 {
-    let row = name.row();
     let pieces: [&[u8]; 4] = [
-        row.about.as_bytes(),
+        name.row().about.as_bytes(),
         b"\n\n",
-        row.short_help.as_bytes(),
+        name.help().short.as_bytes(),
         b"\n",
     ];
     match write_pieces(stdout, &pieces) {

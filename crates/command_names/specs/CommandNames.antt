@@ -4,24 +4,41 @@ use Rattle.std.specs.Prelude.{Option, Some, None, if◌then◌else◌}
 use Rattle.std.specs.List.{AllByRecursion, after_first, before_first, flat_map, starts_with}
 use Rattle.std.specs.Str.{bytes_eq, str_eq_ignore_ascii_case}
 use Rattle.command_names.specs.declared.chapters.Chapter.{Chapter}
-use Rattle.command_names.specs.declared.chapters.Chapter.TheVariants.{Controls, Layout, Fonts, Drawing, Frames}
-use Rattle.command_names.specs.declared.chapters.Chapter.TheVariants.{JobLines}
+use Rattle.command_names.specs.declared.chapters.Chapter.TheVariants as chapters
 use Rattle.command_names.specs.declared.chapters.TheConstants.{CHAPTERS}
 use Rattle.command_names.specs.declared.controls.TheConstants as controls
-use Rattle.command_names.specs.declared.layout.TheConstants as layout
+use Rattle.command_names.specs.declared.places.TheConstants as places
+use Rattle.command_names.specs.declared.pages.TheConstants as pages
+use Rattle.command_names.specs.declared.jobs.TheConstants as jobs
 use Rattle.command_names.specs.declared.fonts.TheConstants as fonts
-use Rattle.command_names.specs.declared.drawing.TheConstants as drawing
-use Rattle.command_names.specs.declared.frames.TheConstants as frames
+use Rattle.command_names.specs.declared.raster_rows.TheConstants as raster_rows
+use Rattle.command_names.specs.declared.rectangles.TheConstants as rectangles
+use Rattle.command_names.specs.declared.devices.TheConstants as devices
+use Rattle.command_names.specs.declared.rasters.TheConstants as rasters
+use Rattle.command_names.specs.declared.colours.TheConstants as colours
+use Rattle.command_names.specs.declared.frames_to_d.TheConstants as frames_to_d
+use Rattle.command_names.specs.declared.frames_to_l.TheConstants as frames_to_l
+use Rattle.command_names.specs.declared.frames_to_p.TheConstants as frames_to_p
+use Rattle.command_names.specs.declared.frames_to_w.TheConstants as frames_to_w
 use Rattle.command_names.specs.declared.job_lines.TheConstants as job_lines
 
 -- the texts of a chapter, one a command
 unfoldable pub texts_of : Chapter → List (List ℕ)
-texts_of Controls = map (λ text. text.now) controls.TEXTS
-texts_of Layout = map (λ text. text.now) layout.TEXTS
-texts_of Fonts = map (λ text. text.now) fonts.TEXTS
-texts_of Drawing = map (λ text. text.now) drawing.TEXTS
-texts_of Frames = map (λ text. text.now) frames.TEXTS
-texts_of JobLines = map (λ text. text.now) job_lines.TEXTS
+texts_of chapters.Controls = map (λ text. text.now) controls.TEXTS
+texts_of chapters.Places = map (λ text. text.now) places.TEXTS
+texts_of chapters.Pages = map (λ text. text.now) pages.TEXTS
+texts_of chapters.Jobs = map (λ text. text.now) jobs.TEXTS
+texts_of chapters.Fonts = map (λ text. text.now) fonts.TEXTS
+texts_of chapters.RasterRows = map (λ text. text.now) raster_rows.TEXTS
+texts_of chapters.Rectangles = map (λ text. text.now) rectangles.TEXTS
+texts_of chapters.Devices = map (λ text. text.now) devices.TEXTS
+texts_of chapters.Rasters = map (λ text. text.now) rasters.TEXTS
+texts_of chapters.Colours = map (λ text. text.now) colours.TEXTS
+texts_of chapters.FramesToD = map (λ text. text.now) frames_to_d.TEXTS
+texts_of chapters.FramesToL = map (λ text. text.now) frames_to_l.TEXTS
+texts_of chapters.FramesToP = map (λ text. text.now) frames_to_p.TEXTS
+texts_of chapters.FramesToW = map (λ text. text.now) frames_to_w.TEXTS
+texts_of chapters.JobLines = map (λ text. text.now) job_lines.TEXTS
 
 abbrev pub texts_in : List Chapter → List (List ℕ)
 texts_in chapters = flat_map texts_of chapters

@@ -2,14 +2,23 @@
 #![tactic(auto)]
 
 mod chapters;
+mod colours;
 mod controls;
-mod drawing;
+mod devices;
 mod fonts;
-mod frames;
+mod frames_to_d;
+mod frames_to_l;
+mod frames_to_p;
+mod frames_to_w;
 mod job_lines;
+mod jobs;
 mod laws;
-mod layout;
 mod names;
+mod pages;
+mod places;
+mod raster_rows;
+mod rasters;
+mod rectangles;
 
 pub use chapters::{CHAPTERS, Chapter};
 pub use laws::{commands_are_told, names_are_short};

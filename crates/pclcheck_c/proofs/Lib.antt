@@ -1,5 +1,3 @@
 mod AsBox
 mod AsSession
-mod Known
-mod Pictures
 mod Sessions

@@ -13,9 +13,10 @@ use Rattle.streams.specs.declared.error.Error.TheVariants.{Items, Memory, NoProf
 use Rattle.verdict.specs.Limits.{has_many_items}
 use Rattle.pclcheck_c.specs.declared.fleet.Fleet.{Fleet}
 use Rattle.pclcheck_c.specs.declared.kept_session.KeptSession.{KeptSession}
-use Rattle.pclcheck_c.specs.declared.told.Told.{Told}
-use Rattle.pclcheck_c.specs.declared.why.Why.{Why}
-use Rattle.pclcheck_c.specs.Checked.{IsSentenceOf, IsTextOf, asked}
+use Rattle.foreign_calls.specs.Answers.{Told}
+use Rattle.foreign_calls.specs.declared.why.Why.{Why}
+use Rattle.foreign_calls.specs.Checked.{IsSentenceOf, IsTextOf}
+use Rattle.pclcheck_c.specs.Fleets.{asked}
 use Rattle.pclcheck_c.specs.Sessions.{EndsAs, GoesOn, OnHeld, answer_of, printers_for}
 
 -- ---- what is held

@@ -1,17 +1,32 @@
 -- What the calls on fleets leave.
-use Rattle.std.specs.Prelude.{◌≡◌, ◌⊎◌, ◌+◌, ℕ, List, [], ◌∷◌, ◌++◌, length, map, Option, None, Some}
-use Rattle.std.specs.Prelude.{Result, IfOk, IfErr}
+use Rattle.std.specs.Prelude.{◌≡◌, ◌⊎◌, ◌+◌, ◌-◌, ◌==◌, ℕ, List, [], ◌∷◌, ◌++◌, Bool, false, true, if◌then◌else◌}
+use Rattle.std.specs.Prelude.{length, map, Option, None, Some, Result, IfOk, IfErr}
 use Rattle.device_profile.specs.Name.{printer_name}
 use Rattle.device_profile.specs.Printer.{Printer}
+use Rattle.job_reports.specs.Groups.{Groups, group_at}
 use Rattle.pclcheck_c.specs.declared.fleet.Fleet.{Fleet}
-use Rattle.pclcheck_c.specs.declared.rows.Refusal.{Refusal}
-use Rattle.pclcheck_c.specs.declared.why.Why.{Why}
-use Rattle.pclcheck_c.specs.Answers.{IsWhyOf, refusal_by, work_number}
-use Rattle.pclcheck_c.specs.Limits.{IsPrinterOf}
+use Rattle.foreign_calls.specs.declared.rows.Refusal.{Refusal}
+use Rattle.foreign_calls.specs.declared.why.Why.{Why}
+use Rattle.foreign_calls.specs.Answers.{IsWhyOf, refusal_by, work_number}
+use Rattle.foreign_calls.specs.Limits.{IsPrinterOf}
 
 -- the names of the printers
 abbrev pub names_of : Fleet → List (List ℕ)
 names_of fleet = map (λ name. name.items) fleet.names.items
+
+-- the printers of a fleet, all together or each by itself
+abbrev pub groups_of : Fleet → Bool → Groups
+groups_of fleet is_each = record {
+  fleet = fleet.profiles.items;
+  note_printers = [];
+  names = map (λ name. name.items) fleet.names.items;
+  is_each = is_each;
+}
+
+-- those that are asked for: all for 0, else the one of this number by itself
+abbrev pub asked : Fleet → (printer : ℕ) → Groups
+asked fleet printer =
+    if printer == 0 then groups_of fleet false else group_at (groups_of fleet true) (printer - 1)
 
 -- no printer
 pub record HasNone (fleet : Fleet) : Type 0 where

@@ -1,11 +1,4 @@
-pub mod Answers
-pub mod Checked
-pub mod Drawn
-pub mod Explained
 pub mod Fleets
 pub mod Handle
-pub mod Limits
-pub mod Panels
 pub mod SessionHandle
 pub mod Sessions
-pub mod Texts

@@ -11,11 +11,11 @@ use Rattle.streams.specs.declared.error.Error.TheVariants.{Items, NoProfile, Wri
 use Rattle.verdict.specs.Limits.{has_many_items}
 use Rattle.pclcheck_c.specs.declared.fleet.Fleet.{Fleet}
 use Rattle.pclcheck_c.specs.declared.kept_session.KeptSession.{KeptSession}
-use Rattle.pclcheck_c.specs.declared.rows.VerdictRow.{VerdictRow}
-use Rattle.pclcheck_c.specs.declared.told.Told.{Told}
-use Rattle.pclcheck_c.specs.declared.why.Why.{Why}
-use Rattle.pclcheck_c.specs.Answers.{IsStop, error_number, progress_number}
-use Rattle.pclcheck_c.specs.Checked.{IsSentenceOf, answer_number, answer_row, asked}
+use Rattle.pclcheck_c.specs.Fleets.{asked}
+use Rattle.foreign_calls.specs.declared.rows.VerdictRow.{VerdictRow}
+use Rattle.foreign_calls.specs.declared.why.Why.{Why}
+use Rattle.foreign_calls.specs.Answers.{IsStop, Told, error_number}
+use Rattle.foreign_calls.specs.Checked.{IsSentenceOf, answer_number, answer_row}
 
 -- the printers that a session checks for
 abbrev pub printers_for : Fleet → KeptSession → List Printer
@@ -53,6 +53,12 @@ pub record Begins (printer number : ℕ) (fleet : Fleet) (held : Option KeptSess
   pub held_is : held ≡ begun answer
 
 -- ---- a piece
+
+-- how far a check has come: nothing is wrong so far, or there is an answer, whatever follows, or it stopped
+abbrev pub progress_number : {A : Type 0} → KeptCheck A → ℕ
+progress_number (Open check) = 0
+progress_number (Judged answer) = 12
+progress_number (Stopped error) = error_number error
 
 -- the session was fed this piece too, and the number says how far it has come
 pub record Feeds (piece : List ℕ) (number : ℕ) (fleet : Fleet) (old new : KeptSession) : Type 0 where

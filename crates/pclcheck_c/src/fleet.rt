@@ -1,14 +1,10 @@
 //! A fleet: printers, with the names that sentences have.
 ghost use Rattle.std.specs.Prelude.{◌≡◌, Some, IfErr, IfOk};
 ghost use Rattle.device_profile.specs.Name.{printer_name};
-ghost use Rattle.pclcheck_c.specs.Checked.{asked, groups_of};
-ghost use Rattle.pclcheck_c.specs.Fleets.{Adds, HasNone, IsRefusedBy, IsWith};
+ghost use Rattle.pclcheck_c.specs.Fleets.{Adds, HasNone, IsRefusedBy, IsWith, asked, groups_of};
 
-use crate::numbers::DONE;
-use crate::printer_texts::read_limited;
-use crate::rows::Refusal;
-use crate::why::Why;
 use device_profile::{Profile, printer_name};
+use foreign_calls::{DONE, Refusal, Why, read_limited};
 use job_reports::PrinterGroup;
 use std::alloc::{AllocError, Global};
 use streams::Error;

@@ -5,8 +5,8 @@ ghost use Rattle.pclcheck_c.specs.Fleets.{HasNone, IsMade};
 ghost use Rattle.pclcheck_c.specs.Handle.{handle_owns, held_coded};
 
 use crate::fleet::Fleet;
-use crate::numbers::{DONE, MEMORY};
 use crate::parts::Parts;
+use foreign_calls::{DONE, MEMORY};
 use std::alloc::Global;
 use std::marker::Model;
 use std::{mem, ptr};

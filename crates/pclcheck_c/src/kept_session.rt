@@ -1,16 +1,15 @@
 //! A check between two pieces of a job, that C holds.
 ghost use Rattle.std.specs.Prelude.{◌≡◌, ◌++◌, ◌↔◌, ℕ, List, [], IfErr, IfOk, IsErrOf};
 ghost use Rattle.preflight.specs.Kept.{HasEnded, HasKept, IsGoing, IsOver};
-ghost use Rattle.pclcheck_c.specs.Answers.{IsStop};
-ghost use Rattle.pclcheck_c.specs.Checked.{IsSentenceOf, asked};
-ghost use Rattle.pclcheck_c.specs.Sessions.{Ends, EndsAs, Feeds, answer_of, printers_for, within};
+ghost use Rattle.foreign_calls.specs.Answers.{IsStop};
+ghost use Rattle.foreign_calls.specs.Checked.{IsSentenceOf};
+ghost use Rattle.pclcheck_c.specs.Fleets.{asked};
+ghost use Rattle.pclcheck_c.specs.Sessions.{Ends, EndsAs, Feeds, answer_of, printers_for};
+ghost use Rattle.pclcheck_c.specs.Sessions.{progress_number, within};
 
-use crate::checking::{leave, text_of};
+use crate::checking::text_of;
 use crate::fleet::Fleet;
-use crate::numbers::progress_number;
-use crate::rows::VerdictRow;
-use crate::told::Told;
-use crate::why::Why;
+use foreign_calls::{DONE, JUDGED, Told, VerdictRow, Why, error_number, leave};
 use preflight::{Judgement, KeptCheck};
 use std::alloc::Global;
 use std::mem;
@@ -46,7 +45,12 @@ impl KeptSession {
     }
 
     /// Comes to the end, and tells the sentence on the job, which has this name.
-    pub(crate) fn tell(&mut self, alloc: Global, fleet: &Fleet, name: &[u8]) -> Result<Told, Why>
+    pub(crate) fn tell(
+        &mut self,
+        alloc: Global,
+        fleet: &Fleet,
+        name: &[u8],
+    ) -> Result<Told<Global>, Why>
         requires { IsGoing (printers_for fleet.now self.old) self.old.check }
         ensures ends { EndsAs fleet.now self.old self.new }
         ensures sentence { IfOk result (λ told. (bytes : List ℕ) →
@@ -76,6 +80,17 @@ impl KeptSession {
             KeptCheck::Judged(answer) => within(*answer),
             KeptCheck::Stopped(error) => Err(*error),
         }
+    }
+}
+
+/// How far a check has come.
+fn progress_number(check: &KeptCheck<Global>) -> u32
+    ensures { result ≡ progress_number check.now }
+{
+    match check {
+        KeptCheck::Open(_) => DONE,
+        KeptCheck::Judged(_) => JUDGED,
+        KeptCheck::Stopped(error) => error_number(*error),
     }
 }
 

@@ -21,55 +21,37 @@ ghost use Rattle.command_names.specs.CommandNames.{table};
 ghost use Rattle.device_profile.specs.Name.{printer_name};
 ghost use Rattle.profile_lint.specs.Lint.{faults_text};
 ghost use Rattle.renderings.specs.Expected.{list_rendering, plain_rendering};
-ghost use Rattle.pclcheck_c.specs.Answers.{IsHanded, IsStop, IsWhyOf, Tells, filled, refusal_by};
-ghost use Rattle.pclcheck_c.specs.Answers.{room_number, row_by};
-ghost use Rattle.pclcheck_c.specs.Checked.{Checks, IsSentenceOf, asked};
-ghost use Rattle.pclcheck_c.specs.Drawn.{IsPicture, MayDraw};
-ghost use Rattle.pclcheck_c.specs.Explained.{IsExplained, IsUnheard, code_asked};
-ghost use Rattle.pclcheck_c.specs.Fleets.{Adds, IsMade, Limits};
+ghost use Rattle.foreign_calls.specs.Answers.{IsHanded, IsStop, IsWhyOf, Tells, filled, refusal_by};
+ghost use Rattle.foreign_calls.specs.Answers.{room_number, row_by};
+ghost use Rattle.foreign_calls.specs.Checked.{Checks, IsSentenceOf};
+ghost use Rattle.foreign_calls.specs.Drawn.{IsPicture, MayDraw};
+ghost use Rattle.foreign_calls.specs.Explained.{IsExplained, IsUnheard, code_asked};
+ghost use Rattle.foreign_calls.specs.Texts.{IsNoted, IsPaged, IsPinned, IsWritten, MayPin};
+ghost use Rattle.pclcheck_c.specs.Fleets.{Adds, IsMade, Limits, asked};
 ghost use Rattle.pclcheck_c.specs.Sessions.{Begins, Ends, Feeds, GoesOn, OnHeld, Says};
-ghost use Rattle.pclcheck_c.specs.Texts.{IsNoted, IsPaged, IsPinned, IsWritten, MayPin};
 
 mod checking;
-mod drawing;
-mod explaining;
 mod fleet;
 mod handle;
-mod job_texts;
 mod kept_session;
-mod numbers;
-mod one_text;
-mod panel_values;
 mod parts;
-mod printer_texts;
-mod profile_faults;
-mod room;
-mod rows;
 mod session_handle;
-mod told;
-mod why;
 
 use crate::checking::{check, tell};
-use crate::drawing::drawn;
-use crate::explaining::explained;
-use crate::job_texts::{list, plain};
-use crate::printer_texts::{noted, paged, pinned};
-use crate::profile_faults::faults;
 use crate::session_handle::begin;
-use crate::told::{hand_out, leave_refusal, leave_row};
 use device_profile::printer_name;
+use foreign_calls::{
+    drawn, explained, faults, hand_out, leave_refusal, leave_row, list, noted, paged, pinned,
+    plain, put,
+};
+pub use foreign_calls::{
+    DONE, ITEMS, JUDGED, LONG, MEMORY, NO_FIELD, NO_PAGE, NO_PRINTER, NOT_ALLOWED, PanelValue,
+    REFUSED, ROOM, Refusal, STOPPED, UNKNOWN, VERSION, VerdictRow,
+};
 pub use handle::FleetHandle;
 use meanings::EXPLANATIONS;
-pub use numbers::{
-    DONE, ITEMS, JUDGED, LONG, MEMORY, NO_FIELD, NO_PAGE, NO_PRINTER, NOT_ALLOWED, REFUSED, ROOM,
-    STOPPED, UNKNOWN,
-};
-pub use rows::{PanelValue, Refusal, VerdictRow};
 pub use session_handle::SessionHandle;
 use std::alloc::Global;
-
-/// The version of the library, as `pclcheck --version` has it behind the name.
-const VERSION: &str = "0.1.0";
 
 /// Puts the version of the library, as `0.1.0`.
 ///
@@ -80,7 +62,7 @@ pub extern "C" fn pclcheck_version(text: &mut [u8], needed: &mut usize) -> u32
     ensures text { text.new ≡ filled VERSION.now text.old }
     ensures needed { needed.new ≡ length VERSION.now }
 {
-    room::put(VERSION.as_bytes(), text, needed)
+    put(VERSION.as_bytes(), text, needed)
 }
 
 /// Puts what is known of a code: the number or the name of a fault, a finding or a note, or a
@@ -113,7 +95,7 @@ pub extern "C" fn pclcheck_printer_name(profile: &[u8], text: &mut [u8], needed:
     ensures text { text.new ≡ filled (printer_name profile.now) text.old }
     ensures needed { needed.new ≡ length (printer_name profile.now) }
 {
-    room::put(printer_name(profile), text, needed)
+    put(printer_name(profile), text, needed)
 }
 
 /// Puts all that is wrong with the text of a profile, as `pclcheck profile lint` writes it: a line
@@ -129,7 +111,7 @@ pub extern "C" fn pclcheck_faults(
     text: &mut [u8],
     needed: &mut usize,
 ) -> u32
-    ensures { Tells (λ told. told.text.items ≡ faults_text name.now profile.now) IsStop
+    ensures { Tells (λ told. told.text ≡ faults_text name.now profile.now) IsStop
         (λ told. IsHanded told result text.old text.new needed.old needed.new) }
 {
     hand_out(&faults(alloc, name, profile), text, needed)
@@ -479,7 +461,7 @@ pub extern "C" fn pclcheck_picture(
     needed: &mut usize,
 ) -> u32
     ensures { Tells
-        (λ told. IsPicture profile.now name.now job.now page told.text.items)
+        (λ told. IsPicture profile.now name.now job.now page told.text)
         (MayDraw profile.now name.now job.now page)
         (λ told. IsHanded told result text.old text.new needed.old needed.new
         × (refusal.new ≡ refusal_by refusal.old told)) }

@@ -6,8 +6,8 @@ ghost use Rattle.pclcheck_c.specs.Sessions.{Begins};
 
 use crate::fleet::Fleet;
 use crate::kept_session::{KeptSession, begun};
-use crate::numbers::{DONE, error_number};
 use crate::parts::Parts;
+use foreign_calls::{DONE, error_number};
 use std::alloc::Global;
 use std::marker::Model;
 use std::{mem, ptr};

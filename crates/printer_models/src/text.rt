@@ -6,7 +6,7 @@ use crate::model::{Model, ModelRow};
 use crate::page::{ORIENTATIONS, page_numbers};
 use crate::panel_lists::{PanelLists, panel_values};
 use crate::paper::Paper;
-use device_profile::{FORMAT_NAME, Field, Key};
+use device_profile::{CodeRange, FORMAT_NAME, Field, Key};
 use shown_bytes::{push_amount, push_lettered, push_number};
 use std::alloc::{AllocError, Allocator};
 
@@ -128,8 +128,16 @@ fn push_panel<A: Allocator + Copy>(
     papers: &[Paper],
     lists: PanelLists,
 ) -> Result<(), AllocError> {
-    text.extend_from_slice(Key::Name.word())?;
-    push_all(text, &[" ", model.row().word, "\n"])?;
+    let name = Part::Words(model.row().word);
+    push_parts(
+        text,
+        &[
+            Part::Key(Key::Name),
+            Part::Words(" "),
+            name,
+            Part::Words("\n"),
+        ],
+    )?;
     for field in Field::ALL {
         push_field(text, alloc, model, papers, lists, field)?;
     }
@@ -160,11 +168,12 @@ fn push_values<A: Allocator>(
 ) -> Result<(), AllocError> {
     text.extend_from_slice(field.key())?;
     for value in values {
-        if field.has_decimals() {
-            push_amount_word(text, *value)?;
+        let part = if field.has_decimals() {
+            Part::Amount(*value)
         } else {
-            push_number_word(text, *value)?;
-        }
+            Part::Value(*value)
+        };
+        push_part(text, &part)?;
     }
     push(text, "\n")
 }
@@ -197,7 +206,14 @@ fn push_device<A: Allocator>(text: &mut Vec<u8, A>, row: &ModelRow) -> Result<()
 
 /// Appends the pages of a paper.
 fn push_pages<A: Allocator>(text: &mut Vec<u8, A>, paper: Paper) -> Result<(), AllocError> {
-    push_all(text, &["# ", paper.word(), "\n"])?;
+    push_parts(
+        text,
+        &[
+            Part::Words("# "),
+            Part::Words(paper.word()),
+            Part::Words("\n"),
+        ],
+    )?;
     for orientation in 0..ORIENTATIONS {
         push_list(text, Key::Page, &page_numbers(paper, orientation))?;
     }
@@ -230,16 +246,25 @@ fn push_designs<A: Allocator>(text: &mut Vec<u8, A>) -> Result<(), AllocError> {
 /// Appends a design with its number, and the other number that it may have.
 fn push_design<A: Allocator>(
     text: &mut Vec<u8, A>,
-    before: &str,
+    before: &'static str,
     typeface: Typeface,
     other: Option<Typeface>,
 ) -> Result<(), AllocError> {
-    push(text, before)?;
-    push_all(text, &[typeface.name(), " ("])?;
-    push_number(text, u64::from(typeface.number()))?;
+    let number = Part::Number(u64::from(typeface.number()));
+    push_parts(
+        text,
+        &[
+            Part::Words(before),
+            Part::Words(typeface.name()),
+            Part::Words(" ("),
+            number,
+        ],
+    )?;
     if let Some(other) = other {
-        push(text, ", ")?;
-        push_number(text, u64::from(other.number()))?;
+        push_parts(
+            text,
+            &[Part::Words(", "), Part::Number(u64::from(other.number()))],
+        )?;
     }
     push(text, ")")
 }
@@ -251,25 +276,62 @@ fn push_face<A: Allocator>(
     face: FaceRow,
 ) -> Result<(), AllocError> {
     let metrics = face.cut.metrics();
-    text.extend_from_slice(Key::Face.word())?;
-    text.push(b' ')?;
-    push_number(text, id as u64)?;
-    push_set(text, face.set)?;
-    push_amount_word(text, metrics.pitch)?;
-    push_amount_word(text, metrics.height)?;
-    push_numbers(
+    push_parts(
         text,
         &[
-            u32::from(face.look.style()),
-            u32::from(face.look.weight()),
-            u32::from(face.typeface.number()),
-            metrics.advance,
-            metrics.ascent,
-            metrics.descent,
+            Part::Key(Key::Face),
+            Part::Words(" "),
+            Part::Number(id as u64),
+            Part::Set(face.set),
+            Part::Amount(metrics.pitch),
+            Part::Amount(metrics.height),
+            Part::Value(u32::from(face.look.style())),
+            Part::Value(u32::from(face.look.weight())),
+            Part::Value(u32::from(face.typeface.number())),
+            Part::Value(metrics.advance),
+            Part::Value(metrics.ascent),
+            Part::Value(metrics.descent),
+            Part::Codes(face.set),
+            Part::Words("\n"),
         ],
-    )?;
-    push_codes(text, face.set)?;
-    push(text, "\n")
+    )
+}
+
+/// A part of a line.
+#[derive(Clone, Copy)]
+enum Part<'a> {
+    Words(&'a str),
+    Key(Key),
+    Number(u64),
+    /// A number behind a space.
+    Value(u32),
+    /// So many ten-thousandths behind a space.
+    Amount(u32),
+    /// A symbol set behind a space.
+    Set(CharacterSet),
+    /// The codes that print in a set, behind a space.
+    Codes(CharacterSet),
+}
+
+/// Appends parts, one behind the other.
+fn push_parts<A: Allocator>(text: &mut Vec<u8, A>, parts: &[Part<'_>]) -> Result<(), AllocError> {
+    for part in parts {
+        push_part(text, part)?;
+    }
+    Ok(())
+}
+
+/// Appends a part.
+fn push_part<A: Allocator>(text: &mut Vec<u8, A>, part: &Part<'_>) -> Result<(), AllocError> {
+    match part {
+        Part::Words(words) => push(text, words),
+        Part::Key(key) => text.extend_from_slice(key.word()),
+        Part::Number(number) => push_number(text, *number),
+        Part::Value(number) => push_number_word(text, *number),
+        Part::Amount(amount) => push_amount_word(text, *amount),
+        Part::Set(set) => push_set(text, *set),
+        Part::Codes(set) => push_codes(text, *set),
+    }
 }
 
 /// Appends a symbol set behind a space.
@@ -283,11 +345,16 @@ fn push_set<A: Allocator>(text: &mut Vec<u8, A>, set: CharacterSet) -> Result<()
 fn push_codes<A: Allocator>(text: &mut Vec<u8, A>, set: CharacterSet) -> Result<(), AllocError> {
     for (index, range) in set.codes().iter().enumerate() {
         text.push(if index == 0 { b' ' } else { b',' })?;
-        push_number(text, u64::from(range.first))?;
-        text.push(b'-')?;
-        push_number(text, u64::from(range.last))?;
+        push_range(text, *range)?;
     }
     Ok(())
+}
+
+/// Appends the first code of a range and the last.
+fn push_range<A: Allocator>(text: &mut Vec<u8, A>, range: CodeRange) -> Result<(), AllocError> {
+    push_number(text, u64::from(range.first))?;
+    text.push(b'-')?;
+    push_number(text, u64::from(range.last))
 }
 
 /// Appends a number behind a space.

@@ -26,7 +26,7 @@ pub use driver::{Consumer, PIECE, read_job};
 pub use ended::{Ended, JobEnd};
 pub use error::{CreateError, Error};
 pub use file_at::{OutletAt, SourceAt};
-pub use file_id::FileId;
+pub use file_id::{FileId, is_same_file};
 pub use file_outlet::FileOutlet;
 pub use file_source::FileSource;
 pub use given::Given;

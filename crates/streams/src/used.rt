@@ -1,22 +1,30 @@
 //! The files that were read and written, with the paths that they were asked for at. Only proofs
 //! read this: it takes no memory, and nothing is done for it at run time.
-ghost use Rattle.std.specs.Prelude.{◌≡◌, List, [], ◌∷◌, ◌++◌, map};
+ghost use Rattle.std.specs.Prelude.{◌≡◌, List, [], ◌∷◌, ◌++◌, map, option_map, is_some};
+ghost use Rattle.std.specs.Prelude.{IfOk, IsFalse, IsTrue, OnErr};
 ghost use Rattle.std.specs.Borrow.{ftrue};
-ghost use Rattle.streams.specs.Used.{FileUse, TextsAt, read_at, read_of_job, use_of, written_at};
+ghost use Rattle.streams.specs.Used.{FileUse, NotEntered, SameFile, TextsAt, look_of, read_at};
+ghost use Rattle.streams.specs.Used.{read_of_job, use_of, written_at};
 
 use crate::ended::Ended;
 use crate::file_at::{OutletAt, SourceAt};
+use crate::file_id::is_same_file;
 use crate::given::Given;
 use crate::outlet::Outlet;
 use crate::source::Source;
+use std::alloc::AllocError;
 use std::io::Print;
 use std::marker::Model;
 use std::rt::Files;
+use std::{fs, io};
 
 /// What a file had come to when no more was read of it or written to it.
 #[derive(Drop)]
 pub struct FileEnd<'a> {
     pub path: &'a str,
+    /// A look found that a folder is not entered, or that this other path leads to the same file.
+    pub is_look: bool,
+    pub other: Option<&'a str>,
     pub is_written: bool,
     /// These are texts under words, and no path.
     pub are_texts: bool,
@@ -63,7 +71,8 @@ impl FileUses {
 }
 
 /// The files that were read and written so far, in the order in which that ended. A clause sees it
-/// as the list of them. Nothing but `read`, `written`, `texts` and `jobs` adds one.
+/// as the list of them. Nothing but `read`, `written`, `texts`, `jobs`, `enter` and `is_same_file`
+/// adds one.
 #[derive(Drop)]
 pub struct FilesUsed {
     so_far: FileUses,
@@ -95,6 +104,8 @@ impl FilesUsed {
         let taken = Given::new();
         self.so_far = self.so_far.and(&FileEnd {
             path: "",
+            is_look: false,
+            other: None,
             is_written: false,
             are_texts: true,
             words,
@@ -123,6 +134,8 @@ impl FilesUsed {
         let taken = Given::new();
         self.so_far = self.so_far.and(&FileEnd {
             path,
+            is_look: false,
+            other: None,
             is_written: false,
             are_texts: false,
             words: Given::new(),
@@ -146,6 +159,8 @@ impl FilesUsed {
         let taken = file.into_taken();
         self.so_far = self.so_far.and(&FileEnd {
             path,
+            is_look: false,
+            other: None,
             is_written: true,
             are_texts: false,
             words: Given::new(),
@@ -153,6 +168,63 @@ impl FilesUsed {
             taken,
             has_failed,
             is_put,
+        });
+    }
+
+    /// Looks whether the system enters a folder: none, and nothing more, where it does; else why it
+    /// does not, which is told.
+    ///
+    /// An error is lack of memory, and nothing is told.
+    pub fn enter<R: Files + AllocGlobal>(
+        &mut self,
+        files: &R,
+        folder: &str,
+    ) -> Result<Option<io::Error>, AllocError>
+        ensures told { IfOk result (λ fault. IsTrue (is_some fault) →
+            self.new ≡ self.old ++ NotEntered folder.now ∷ []) }
+        ensures quiet { IfOk result (λ fault. IsFalse (is_some fault) → self.new ≡ self.old) }
+        ensures refused { OnErr result (self.new ≡ self.old) }
+    {
+        let mut inside = String::new(files.alloc());
+        inside.push_str(folder)?;
+        inside.push_str("/.")?;
+        match fs::metadata(files, inside.as_str()) {
+            Ok(_) => Ok(None),
+            Err(error) => {
+                self.found(folder, None);
+                Ok(Some(error))
+            }
+        }
+    }
+
+    /// Looks whether two paths lead to one plain file. Where they do, that is told.
+    pub fn is_same_file<R: Files>(&mut self, files: &R, path: &str, other: &str) -> bool
+        ensures told { IsTrue result → self.new ≡ self.old ++ SameFile path.now other.now ∷ [] }
+        ensures quiet { IsFalse result → self.new ≡ self.old }
+    {
+        if is_same_file(files, path, other) {
+            self.found(path, Some(other));
+            return true;
+        }
+        false
+    }
+
+    /// And then what a look has found.
+    fn found(&mut self, path: &str, other: Option<&str>)
+        ensures { self.new ≡ self.old
+            ++ look_of path.now (option_map (λ other. other.now) other.entry) ∷ [] }
+    {
+        self.so_far = self.so_far.and(&FileEnd {
+            path,
+            is_look: true,
+            other,
+            is_written: false,
+            are_texts: false,
+            words: Given::new(),
+            given: Given::new(),
+            taken: Given::new(),
+            has_failed: false,
+            is_put: false,
         });
     }
 }

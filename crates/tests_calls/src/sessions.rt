@@ -31,15 +31,30 @@ fn fleet_of(alloc: Global, samples: &[Sample]) -> Result<Vec<Profile>, AllocErro
     Ok(fleet)
 }
 
-/// Feeds a session pieces of so many bytes. What it tells before the end is what is told of the
-/// whole job, or nothing.
+/// Whether what a session tells before its end is what is told of the whole job, or nothing.
+fn tells_of_whole(session: &Session<'_, Global, Global>, whole: &Judgement) -> bool {
+    let item = session.failing_item();
+    let page = session.page();
+    (item.is_none() || item == whole.failing_item)
+        && (page.is_none() || page == whole.page)
+        && tells_spot_of_whole(session, whole)
+}
+
+/// The same of a place of the cursor, and of a font.
+fn tells_spot_of_whole(session: &Session<'_, Global, Global>, whole: &Judgement) -> bool {
+    let cursor = session.cursor();
+    let font = session.font();
+    (cursor.is_none() || cursor == whole.cursor) && (font.is_none() || font == whole.font)
+}
+
+/// Feeds a session pieces of so many bytes. It is asked what it tells before the end.
 fn check_pieces(
     rt: &impl Abort,
     alloc: Global,
     fleet: &[Profile],
     job: &[u8],
     size: usize,
-    whole: Judgement,
+    whole: &Judgement,
 ) -> Result<(), Error>
     requires { 0 < size }
 {
@@ -47,28 +62,12 @@ fn check_pieces(
     for piece in job.chunks(size) {
         session.feed(piece)?;
     }
-    let before = session.failing_item();
-    assert!(rt;
-        before == None || before == whole.failing_item,
-        "{job:?} in pieces of {size}"
-    );
-    let page = session.page();
-    assert!(rt;
-        page == None || page == whole.page,
-        "{job:?} in pieces of {size}"
-    );
-    let cursor = session.cursor();
-    assert!(rt;
-        cursor == None || cursor == whole.cursor,
-        "{job:?} in pieces of {size}"
-    );
-    let font = session.font();
-    assert!(rt;
-        font == None || font == whole.font,
-        "{job:?} in pieces of {size}"
-    );
+    let tells = tells_of_whole(&session, whole);
     let verdict = session.end()?;
-    assert!(rt; verdict == whole.verdict, "{job:?} in pieces of {size}");
+    assert!(rt;
+        tells && verdict == whole.verdict,
+        "{job:?} in pieces of {size}"
+    );
     Ok(())
 }
 
@@ -76,7 +75,7 @@ fn check_pieces(
 fn check_sizes(rt: &impl Abort, alloc: Global, fleet: &[Profile], job: &[u8]) -> Result<(), Error> {
     let whole = check_job_telling(alloc, &mut Latched::new(job), fleet)?;
     for size in 1..=job.len() {
-        check_pieces(rt, alloc, fleet, job, size, whole)?;
+        check_pieces(rt, alloc, fleet, job, size, &whole)?;
     }
     Ok(())
 }

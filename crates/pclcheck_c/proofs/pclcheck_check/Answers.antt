@@ -1,6 +1,7 @@
 use Rattle.std.proofs.Common.{IfSome, Option, Some, subst, sym}
 use Rattle.pclcheck_c.specs.declared.fleet.Fleet.{Fleet}
-use Rattle.pclcheck_c.specs.Checked.{Checks, asked}
+use Rattle.foreign_calls.specs.Checked.{Checks}
+use Rattle.pclcheck_c.specs.Fleets.{asked}
 use Rattle.pclcheck_c.proofs.pclcheck_check.Goals as goal
 
 pub returns-clause-checked : goal.returns-clause-checked

@@ -1,5 +1,5 @@
 use Rattle.std.proofs.Common.{◌≡◌}
-use Rattle.pclcheck_c.specs.Answers.{IsHanded, row_by}
+use Rattle.foreign_calls.specs.Answers.{IsHanded, row_by}
 use Rattle.pclcheck_c.specs.Sessions.{Says}
 use Rattle.pclcheck_c.proofs.Sessions.{goes, on_held}
 use Rattle.pclcheck_c.proofs.pclcheck_session_tell.Goals as goal

@@ -1,7 +1,8 @@
 use Rattle.std.proofs.Common.{◌≡◌, IfSome, Option, Some, subst, sym}
 use Rattle.pclcheck_c.specs.declared.fleet.Fleet.{Fleet}
-use Rattle.pclcheck_c.specs.Answers.{IsHanded, IsStop, Tells, row_by}
-use Rattle.pclcheck_c.specs.Checked.{IsSentenceOf, asked}
+use Rattle.foreign_calls.specs.Answers.{IsHanded, IsStop, Tells, row_by}
+use Rattle.foreign_calls.specs.Checked.{IsSentenceOf}
+use Rattle.pclcheck_c.specs.Fleets.{asked}
 use Rattle.pclcheck_c.proofs.pclcheck_tell.Goals as goal
 
 pub returns-clause-told : goal.returns-clause-told

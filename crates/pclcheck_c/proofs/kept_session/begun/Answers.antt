@@ -3,7 +3,7 @@ use Rattle.device_profile.specs.Printer.{Printer}
 use Rattle.preflight.specs.Kept.{HasKept}
 use Rattle.streams.specs.declared.error.Error.TheVariants.{NoProfile}
 use Rattle.pclcheck_c.specs.declared.kept_session.KeptSession.{KeptSession}
-use Rattle.pclcheck_c.specs.Checked.{asked}
+use Rattle.pclcheck_c.specs.Fleets.{asked}
 use Rattle.pclcheck_c.proofs.Sessions.{begun_right, held_alike, stopped_alike}
 use Rattle.pclcheck_c.proofs.kept_session.begun.Goals as goal
 

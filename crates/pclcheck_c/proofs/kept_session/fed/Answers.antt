@@ -1,7 +1,7 @@
 use Rattle.std.proofs.Common.{◌≡◌, ◌∙◌, ◌++◌, List, ap, subst, sym}
 use Rattle.device_profile.specs.Printer.{Printer}
 use Rattle.preflight.specs.Kept.{HasKept, IsGoing}
-use Rattle.pclcheck_c.specs.Checked.{asked}
+use Rattle.pclcheck_c.specs.Fleets.{asked}
 use Rattle.pclcheck_c.proofs.kept_session.fed.Goals as goal
 
 pub feed-requires : goal.feed-requires

@@ -1,5 +1,5 @@
 use Rattle.std.proofs.Common.{◌∙◌, ap}
-use Rattle.pclcheck_c.specs.Checked.{answer_number, answer_row}
+use Rattle.foreign_calls.specs.Checked.{answer_number, answer_row}
 use Rattle.pclcheck_c.proofs.kept_session.KeptSession.end.Goals as goal
 
 pub returns : goal.returns

@@ -1,0 +1,4 @@
+mod Cutting
+mod JudgementFacts
+mod NearLines
+mod NewTexts

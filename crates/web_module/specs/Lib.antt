@@ -1,0 +1,5 @@
+pub mod Judgements
+pub mod Nearby
+pub mod PageCounts
+pub mod Printers
+pub mod ProfileTexts
