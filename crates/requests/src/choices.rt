@@ -3,7 +3,7 @@
 use device_profile::Field;
 
 /// A value that is chosen for a field of the panel.
-#[derive(Clone, Copy)]
+#[derive(Clone, Copy, Debug, PartialEq, Eq)]
 pub struct Choice {
     pub field: Field,
     /// The VMI in ten-thousandths of 1/48 inch; each other field as its command numbers it.

@@ -12,7 +12,7 @@ pub enum ComparedJobs<'a> {
 }
 
 /// Which marks count as the same.
-#[derive(Clone, Copy)]
+#[derive(Clone, Copy, Debug, PartialEq, Eq)]
 pub struct Nearness {
     /// Those of a page count in any order.
     pub any_order: bool,
@@ -21,7 +21,7 @@ pub struct Nearness {
 }
 
 /// How much is told of what differs.
-#[derive(Clone, Copy)]
+#[derive(Clone, Copy, Debug, PartialEq, Eq)]
 pub enum Extent {
     /// The first difference.
     First,

@@ -1,7 +1,7 @@
 //! What is asked of a check of many jobs.
 
 /// The form of what is told of a job.
-#[derive(Clone, Copy, PartialEq, Eq)]
+#[derive(Clone, Copy, Debug, PartialEq, Eq)]
 pub enum Form {
     /// A line of words and numbers.
     Line,

@@ -2,7 +2,7 @@
 ghost use Rattle.std.specs.Prelude.{◌≡◌};
 
 /// Which pages of a job are drawn.
-#[derive(Clone, Copy)]
+#[derive(Clone, Copy, Debug, PartialEq, Eq)]
 pub enum DrawnPages {
     /// All of them, in one document.
     All,
@@ -11,7 +11,7 @@ pub enum DrawnPages {
 }
 
 /// Which pages of a job are drawn, and whether each character with its box.
-#[derive(Clone, Copy)]
+#[derive(Clone, Copy, Debug, PartialEq, Eq)]
 pub struct Selection {
     pub pages: DrawnPages,
     pub has_boxes: bool,

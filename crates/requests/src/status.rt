@@ -14,7 +14,7 @@ use std::alloc::AllocFailed;
 use streams::{Error, Outlet, write_text};
 
 /// What the program reads.
-#[derive(Clone, Copy)]
+#[derive(Clone, Copy, Debug, PartialEq, Eq)]
 pub enum Input {
     /// The file JOB.
     Job,
@@ -23,7 +23,7 @@ pub enum Input {
 }
 
 /// How the program ends.
-#[derive(Clone, Copy)]
+#[derive(Clone, Copy, Debug, PartialEq, Eq)]
 pub enum Status {
     /// The job passes, or all of its text was written.
     Pass,
@@ -51,7 +51,7 @@ pub enum Status {
 }
 
 /// What stands in the way of verdicts or of a text, and was told with what it is about.
-#[derive(Clone, Copy)]
+#[derive(Clone, Copy, Debug, PartialEq, Eq)]
 pub enum Trouble {
     /// A profile or a fleet is refused.
     Refused,
