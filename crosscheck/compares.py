@@ -165,7 +165,7 @@ def differing(asked: Asked, names: Names, printer: str, old: Run, new: Run) -> O
                           old.end, new.end)
     every = [one for of_page in by_page for one in of_page]
     most = 1 if asked.most is None else asked.most
-    told = [difference(names, printer, (one.page, one.mark, *one[3:])) for one in every[:most]]
+    told = [difference(names, printer, (one.page, one.mark, *one[3:6])) for one in every[:most]]
     if asked.most is not None and len(every) > most:
         pages = sum(map(bool, by_page))
         told.append((f"MORE pages={pages}{names.end}", names.members("MORE", pages=pages)))

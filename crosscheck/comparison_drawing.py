@@ -151,7 +151,7 @@ def pixels(ticks: int, more: int) -> str:
 
 
 def line_of(it: Difference) -> str:
-    return (f'<tspan x="10" dy="17">{it.change}</tspan>'
+    return (f'<tspan x="10" dy="17">{it.listed}</tspan>'
             f'<tspan class="old" x="150">mark {it.old_mark}, byte {it.old_place}</tspan>'
             f'<tspan class="new" x="310">mark {it.new_mark}, byte {it.new_place}</tspan>\n')
 
@@ -178,7 +178,7 @@ def picture(page: DifferingPage, sentence: bytes) -> str:
 # ---- the document of pages
 
 def row_of(it: Difference) -> str:
-    return (f'<tr><td>{it.change}</td><td class="old">{it.old_mark}</td>'
+    return (f'<tr><td>{it.listed}</td><td class="old">{it.old_mark}</td>'
             f'<td class="old">{it.old_place}</td><td class="new">{it.new_mark}</td>'
             f'<td class="new">{it.new_place}</td></tr>\n')
 

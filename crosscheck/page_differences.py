@@ -34,10 +34,16 @@ class Difference(NamedTuple):
     old_place: int
     new_place: int
     change: str
+    is_page: bool = False
 
     @property
     def mark(self) -> int:
         return self.new_mark if self.change == "only in NEW" else self.old_mark
+
+    @property
+    def listed(self) -> str:
+        """What differs, as it is told beside a picture."""
+        return f"page {self.change}" if self.is_page else self.change
 
 
 class Manner(NamedTuple):
@@ -226,6 +232,7 @@ def differences(manner: Manner, old: List[Page], new: List[Page], old_end: int,
         of_page = list(match(manner, at + 1, one, other))
         if one.end != other.end:
             of_page.append(Difference(at + 1, len(one.marks) + 1, len(other.marks) + 1, one.place,
-                                      other.place, end_change(one.end, other.end)))
+                                      other.place, end_change(one.end, other.end),
+                                      one.end is None or other.end is None))
         found.append(of_page)
     return found

@@ -22,7 +22,8 @@ use Rattle.comparison.specs.declared.difference.Difference.{Difference}
 use Rattle.page_comparison.specs.declared.differences.Differences.{Differences}
 use Rattle.page_comparison.specs.declared.differences.PageChange.{PageChange}
 use Rattle.page_comparison.specs.declared.differences.PageChange.TheVariants.{Moved, Changed, OnlyInOld, OnlyInNew}
-use Rattle.page_comparison.specs.declared.differences.PageChange.TheVariants.{PageEnds}
+use Rattle.page_comparison.specs.declared.differences.PageChange.TheVariants.{PageEnds, PageOnlyInOld}
+use Rattle.page_comparison.specs.declared.differences.PageChange.TheVariants.{PageOnlyInNew}
 use Rattle.page_comparison.specs.declared.differences.PageComparison.{PageComparison}
 use Rattle.page_comparison.specs.declared.differences.PageComparison.TheVariants as pages
 use Rattle.page_comparison.specs.declared.differences.PageDifference.{PageDifference}
@@ -140,6 +141,8 @@ change_of changes.Changed = Changed
 change_of changes.OnlyInOld = OnlyInOld
 change_of changes.OnlyInNew = OnlyInNew
 change_of changes.PageEnds = PageEnds
+change_of changes.PageOnlyInOld = PageOnlyInOld
+change_of changes.PageOnlyInNew = PageOnlyInNew
 
 -- the first difference as one of all: up to there the marks of both have the same numbers
 abbrev pub difference_of : Difference → PageDifference

@@ -122,6 +122,8 @@ fn change_of(change: Change) -> PageChange
         Change::OnlyInOld => PageChange::OnlyInOld,
         Change::OnlyInNew => PageChange::OnlyInNew,
         Change::PageEnds => PageChange::PageEnds,
+        Change::PageOnlyInOld => PageChange::PageOnlyInOld,
+        Change::PageOnlyInNew => PageChange::PageOnlyInNew,
     }
 }
 

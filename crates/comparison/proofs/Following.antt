@@ -11,10 +11,9 @@ use Rattle.device_profile.specs.Printer.{Printer}
 use Rattle.page_machine.specs.Event.{Event}
 use Rattle.preflight.specs.Same.{is_same_event}
 use Rattle.streams.specs.Source.{SourceState}
-use Rattle.comparison.specs.declared.difference.Change.TheVariants.{OnlyInOld, OnlyInNew}
 use Rattle.comparison.specs.declared.difference.Comparison.TheVariants.{Differs}
 use Rattle.comparison.specs.declared.difference.Spot.{Spot}
-use Rattle.comparison.specs.Changes.{change_of}
+use Rattle.comparison.specs.Changes.{change_of, only_in_new, only_in_old}
 use Rattle.comparison.specs.Comparison.{Made, behind_event, compared, difference_at, made_at}
 use Rattle.comparison.specs.Comparing.{Following, FollowsOn, HasFollowed, IsNextDifference, difference_of, first_further}
 use Rattle.comparison.specs.Comparing.{further_difference, lacks, lacks_next, next_of, still_made}
@@ -76,7 +75,7 @@ module _ (following : Following) where
   -- ---- what differs
 
   none_next : (spot : Spot) (place : ℕ) (event : Event) → next_of following ≡ None → is_open following.run.progress ≡ false →
-      IsNextDifference spot place event following (Some (difference_at spot place following.run.place OnlyInOld))
+      IsNextDifference spot place event following (Some (difference_at spot place following.run.place (only_in_old event)))
   none_next spot place event is closed = λ old_end new_end old_more new_more may.
       let over = may closed in
       λ i. compared spot old_end (over.1 i) (record { place = place; event = event } ∷ old_more) (none_still is i ++ over.0 i)
@@ -111,11 +110,11 @@ module _ (following : Following) where
   -- where none has come and none may come, OLD has one more
   pub lacks_differs : (spot : Spot) (place : ℕ) (event : Event) → None ≡ next_of following →
       (still_made following ≡ [] → is_open following.run.progress ≡ false) →
-      IsNextDifference spot place event following (Some (difference_at spot place following.run.place OnlyInOld))
+      IsNextDifference spot place event following (Some (difference_at spot place following.run.place (only_in_old event)))
   lacks_differs spot place event is came = none_next spot place event (sym is) (came (none_still (sym is)))
 
   pub further_some : (spot : Spot) (end : ℕ) (event : Event) → Some event ≡ next_of following →
-      further_difference spot end following ≡ Some (difference_at spot end following.run.place OnlyInNew)
+      further_difference spot end following ≡ Some (difference_at spot end following.run.place (only_in_new event))
   further_some spot end event is = ap (first_further spot end) (next_still event (sym is)).1
 
   pub further_none : (spot : Spot) (end : ℕ) → None ≡ next_of following → further_difference spot end following ≡ None

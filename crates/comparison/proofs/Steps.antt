@@ -1,14 +1,16 @@
 -- How a step leads on, behind what a job made before it.
-use Rattle.std.proofs.Common.{◌≡◌, ◌<◌, ◌≤◌, ℕ, Bool, true, false, List, [], ◌∷◌, ◌++◌, length, Some, Result, Ok, Err, unwrap_or}
-use Rattle.std.proofs.Common.{refl, ap, sym, ◌∙◌, subst, append-nil, append_assoc, arith}
+use Rattle.std.proofs.Common.{◌≡◌, ◌<◌, ◌≤◌, ℕ, Bool, true, false, List, [], ◌∷◌, ◌++◌, length, Option, None, Some, Result, Ok, Err}
+use Rattle.std.proofs.Common.{unwrap_or, refl, ap, sym, ◌∙◌, subst, append-nil, append_assoc, arith}
 use Rattle.pcl_items.specs.declared.fault.LexFault.{LexFault}
 use Rattle.pcl_items.specs.declared.item.Item.{Item}
 use Rattle.pcl_items.specs.Items.{Placed, at, view}
 use Rattle.pcl_items.specs.Modes.{follows}
 use Rattle.pcl_lexer.specs.declared.lexer.lexed.Lexed.{Lexed}
 use Rattle.pcl_lexer.specs.declared.lexer.lexed.Lexed.TheVariants as answers
+use Rattle.pcl_lexer.specs.declared.lexer.PlacedRow.{PlacedRow}
 use Rattle.pcl_lexer.specs.Laws.{HasOneReading}
 use Rattle.pcl_lexer.specs.Lexing.Meaning.{Advances, Allows, HasRead, IsNext, KeepsMode, MayBe, Decides, Settles, Tells, given}
+use Rattle.pcl_lexer.specs.Lexing.Meaning.{IsNextRow, answer_of_row}
 use Rattle.pcl_lexer.specs.Lexing.State.{LexerState}
 use Rattle.pcl_lexer.specs.Modes.{mode_of}
 use Rattle.pcl_lexer.specs.Reading.{Reading, Whole, Stopped, IsReading, items_of, left, reading_of, with_item}
@@ -192,6 +194,15 @@ module _ (printer : Printer) (panel : Panel) (number : ℕ) (bytes : List ℕ) (
         subst (λ a. Tells lexer.ended bytes h.items a) is (next.tells bytes h.items h.reads) in
         fault_fails fault lexer'.ended
         (subst (λ e. Settles e bytes (Stopped h.items fault.place fault.cause)) (sym next.ended) settled)
+
+-- ---- a row of a raster that stands next, or none
+
+module _ (lexer lexer' : LexerState) (answer : Option PlacedRow) (next : IsNextRow lexer answer lexer') where
+  pub row_next : (row : PlacedRow) → answer ≡ Some row → IsNext lexer (answer_of_row row) lexer'
+  row_next row is = (subst (λ a. IsNextRow lexer a lexer') is next).0
+
+  pub no_row : answer ≡ None → lexer' ≡ lexer
+  no_row is = subst (λ a. IsNextRow lexer a lexer') is next
 
 -- ---- where a step leaves off
 

@@ -9,6 +9,7 @@ use Rattle.page_machine.specs.Event.{Event, Marked, Ended}
 use Rattle.preflight.specs.Same.{is_same_shape}
 use Rattle.comparison.specs.declared.difference.Change.{Change}
 use Rattle.comparison.specs.declared.difference.Change.TheVariants.{Moved, Changed, OnlyInOld, OnlyInNew, PageEnds}
+use Rattle.comparison.specs.declared.difference.Change.TheVariants.{PageOnlyInOld, PageOnlyInNew}
 
 -- ---- put at the origin
 
@@ -51,3 +52,12 @@ change_of (Marked a) (Marked b) = if is_moved a b then Moved else Changed
 change_of (Marked a) (Ended b) = OnlyInOld
 change_of (Ended a) (Marked b) = OnlyInNew
 change_of (Ended a) (Ended b) = PageEnds
+
+-- an event that one job makes where the other one makes nothing more: what ends there is a page that it has alone
+abbrev pub only_in_old : Event → Change
+only_in_old (Marked a) = OnlyInOld
+only_in_old (Ended a) = PageOnlyInOld
+
+abbrev pub only_in_new : Event → Change
+only_in_new (Marked a) = OnlyInNew
+only_in_new (Ended a) = PageOnlyInNew

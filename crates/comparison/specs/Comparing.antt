@@ -13,13 +13,12 @@ use Rattle.streams.specs.Source.{SourceState}
 use Rattle.comparison.specs.declared.compare.Unread.{Unread}
 use Rattle.comparison.specs.declared.compare.Which.{Which}
 use Rattle.comparison.specs.declared.compare.Which.TheVariants.{Old, New}
-use Rattle.comparison.specs.declared.difference.Change.TheVariants.{OnlyInNew}
 use Rattle.comparison.specs.declared.difference.Comparison.{Comparison}
 use Rattle.comparison.specs.declared.difference.Comparison.TheVariants.{Same, Differs}
 use Rattle.comparison.specs.declared.difference.Difference.{Difference}
 use Rattle.comparison.specs.declared.difference.Spot.{Spot}
 use Rattle.comparison.specs.declared.running_job.Progress.{Progress}
-use Rattle.comparison.specs.Changes.{change_of}
+use Rattle.comparison.specs.Changes.{change_of, only_in_new}
 use Rattle.comparison.specs.Comparison.{Made, IsComparison, at_start, behind_event, compared, difference_at}
 use Rattle.comparison.specs.Running.{HasEnded, HasRun, MayMake, RunState, is_open, last_made}
 
@@ -100,7 +99,7 @@ IsNextDifference spot old_place event following (Some difference) =
 -- what NEW makes behind all of OLD, which ends at this place
 abbrev pub first_further : Spot → ℕ → List Made → Option Difference
 first_further spot old_end [] = None
-first_further spot old_end (made ∷ more) = Some (difference_at spot old_end made.place OnlyInNew)
+first_further spot old_end (made ∷ more) = Some (difference_at spot old_end made.place (only_in_new made.event))
 
 abbrev pub further_difference : Spot → ℕ → Following → Option Difference
 further_difference spot old_end following = first_further spot old_end (still_made following)

@@ -12,12 +12,11 @@ use Rattle.sinks.specs.Counts.{capped, counted, no_counts}
 use Rattle.verdict.specs.declared.failure.Failure.{Failure}
 use Rattle.verdict.specs.Failing.{fault_at, found_at}
 use Rattle.comparison.specs.declared.difference.Change.{Change}
-use Rattle.comparison.specs.declared.difference.Change.TheVariants.{OnlyInOld, OnlyInNew}
 use Rattle.comparison.specs.declared.difference.Comparison.{Comparison}
 use Rattle.comparison.specs.declared.difference.Comparison.TheVariants.{Same, Differs, OldFails, NewFails}
 use Rattle.comparison.specs.declared.difference.Difference.{Difference}
 use Rattle.comparison.specs.declared.difference.Spot.{Spot}
-use Rattle.comparison.specs.Changes.{change_of}
+use Rattle.comparison.specs.Changes.{change_of, only_in_new, only_in_old}
 
 -- ---- what a job comes to
 
@@ -79,8 +78,10 @@ difference_at spot old_place new_place change = record {
 -- They are the same by the relation by which two printers print alike.
 abbrev pub compared : Spot → (old_end new_end : ℕ) → List Made → List Made → Comparison
 compared spot old_end new_end [] [] = Same spot.counts
-compared spot old_end new_end (a ∷ old) [] = Differs (difference_at spot a.place new_end OnlyInOld)
-compared spot old_end new_end [] (b ∷ new) = Differs (difference_at spot old_end b.place OnlyInNew)
+compared spot old_end new_end (a ∷ old) [] =
+    Differs (difference_at spot a.place new_end (only_in_old a.event))
+compared spot old_end new_end [] (b ∷ new) =
+    Differs (difference_at spot old_end b.place (only_in_new b.event))
 compared spot old_end new_end (a ∷ old) (b ∷ new) =
     if is_same_event a.event b.event then compared (behind_event a.event spot) old_end new_end old new
     else Differs (difference_at spot a.place b.place (change_of a.event b.event))

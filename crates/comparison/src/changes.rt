@@ -9,6 +9,8 @@ ghost use Rattle.comparison.specs.Changes.{
   glyph_at_origin,
   is_moved,
   line_at_origin,
+  only_in_new,
+  only_in_old,
   row_at_origin,
 };
 ghost use Rattle.sinks.specs.Owned.{event_of, row_of_owned, shape_of_owned};
@@ -29,6 +31,26 @@ pub(crate) fn change_of<A: Allocator>(of_old: &OwnedEvent<A>, of_new: &OwnedEven
         (OwnedEvent::Marked(_), OwnedEvent::Ended(_)) => Change::OnlyInOld,
         (OwnedEvent::Ended(_), OwnedEvent::Marked(_)) => Change::OnlyInNew,
         (OwnedEvent::Ended(_), OwnedEvent::Ended(_)) => Change::PageEnds,
+    }
+}
+
+/// What differs where OLD makes this event, and NEW nothing more.
+pub(crate) fn only_in_old<A: Allocator>(event: &OwnedEvent<A>) -> Change
+    ensures { result ≡ only_in_old (event_of event.now) }
+{
+    match event {
+        OwnedEvent::Marked(_) => Change::OnlyInOld,
+        OwnedEvent::Ended(_) => Change::PageOnlyInOld,
+    }
+}
+
+/// What differs where NEW makes this event, and OLD nothing more.
+pub(crate) fn only_in_new<A: Allocator>(event: &OwnedEvent<A>) -> Change
+    ensures { result ≡ only_in_new (event_of event.now) }
+{
+    match event {
+        OwnedEvent::Marked(_) => Change::OnlyInNew,
+        OwnedEvent::Ended(_) => Change::PageOnlyInNew,
     }
 }
 

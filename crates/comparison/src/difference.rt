@@ -21,12 +21,16 @@ pub enum Change {
     Moved,
     /// Another mark stands for it.
     Changed,
-    /// OLD has a mark, or a page, that NEW does not have here.
+    /// OLD has a mark that NEW does not have here.
     OnlyInOld,
     /// NEW has one that OLD does not have here.
     OnlyInNew,
     /// The page ends in both, with other values.
     PageEnds,
+    /// OLD has a page without marks behind all of NEW.
+    PageOnlyInOld,
+    /// NEW has one behind all of OLD.
+    PageOnlyInNew,
 }
 
 /// The first difference of two jobs, OLD and NEW.

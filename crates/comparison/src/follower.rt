@@ -13,8 +13,8 @@ ghost use Rattle.sinks.specs.Owned.{event_of};
 ghost use Rattle.streams.specs.Errors.{is_err_of_read};
 ghost use Rattle.streams.specs.Source.{SourceState};
 
-use crate::changes::change_of;
-use crate::difference::{Change, Difference, Spot};
+use crate::changes::{change_of, only_in_new, only_in_old};
+use crate::difference::{Difference, Spot};
 use crate::events::is_same;
 use crate::running_job::RunningJob;
 use device_profile::{Panel, Profile};
@@ -227,7 +227,7 @@ impl<'p, A: Allocator + Copy, P: Allocator> Follower<'p, A, P> {
         let own_place = self.job.place();
         match self.next() {
             Some(next) => difference_of(event, place, next, own_place, spot),
-            None => Some(spot.difference(place, own_place, Change::OnlyInOld)),
+            None => Some(spot.difference(place, own_place, only_in_old(event))),
         }
     }
 
@@ -237,7 +237,7 @@ impl<'p, A: Allocator + Copy, P: Allocator> Follower<'p, A, P> {
         ensures { result ≡ further_difference spot end self.now }
     {
         match self.next() {
-            Some(_) => Some(spot.difference(end, self.job.place(), Change::OnlyInNew)),
+            Some(next) => Some(spot.difference(end, self.job.place(), only_in_new(next))),
             None => None,
         }
     }

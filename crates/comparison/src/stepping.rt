@@ -9,7 +9,7 @@ ghost use Rattle.pcl_lexer.specs.Modes.{mode_of};
 ghost use Rattle.comparison.specs.Running.{CarriesTo, EndsBy, StepsBy};
 
 use page_machine::{Machine, MarkSink, Stop};
-use pcl_items::{Item, Place};
+use pcl_items::{DataCommand, Item, Place};
 use pcl_lexer::{Lexed, Lexer, PlacedItem};
 use std::alloc::Allocator;
 use verdict::Failure;
@@ -49,9 +49,62 @@ where
         lexer.old.place + length lexer.old.rest }
 {
     // What carries these out knows their kind.
-    if let Some(read) = next_known(lexer) {
-        return carry_out(machine, sink, number, read.place, &Item::Simple(read.item));
+    match next_known(lexer) {
+        Some(read) => carry_out(machine, sink, number, read.place, &Item::Simple(read.item)),
+        None => step_row(lexer, machine, sink, number, total),
     }
+}
+
+/// Does so where no command and no pair of coordinates is known to stand next: a row of a raster
+/// mostly does.
+// A call of its own: what carries out a row keeps nothing else.
+#[inline(never)]
+fn step_row<K: MarkSink, A: Allocator + Copy, P: Allocator>(
+    lexer: &mut Lexer<A>,
+    machine: &mut Machine<'_, P, A>,
+    sink: &mut K,
+    number: u64,
+    total: u64,
+) -> Stepped
+where
+    K::Fault: Drop,
+    requires running { machine.old.stopped ≡ false }
+    requires mode { machine.old.mode ≡ mode_of lexer.old.context }
+    ensures came { StepsBy K.takes number total lexer.old machine.old result
+        lexer.new machine.new sink.old sink.new }
+    ensures ended { lexer.new.ended ≡ lexer.old.ended }
+    ensures place { lexer.new.place + length lexer.new.rest ≡
+        lexer.old.place + length lexer.old.rest }
+{
+    match lexer.next_row() {
+        Some(row) => {
+            let item = Item::WithData(DataCommand::RasterRow, row.lent);
+            carry_out(machine, sink, number, row.place, &item)
+        }
+        None => step_other(lexer, machine, sink, number, total),
+    }
+}
+
+/// Does so whatever stands next.
+// A call of its own, which clears room for each answer of the lexer.
+#[inline(never)]
+fn step_other<K: MarkSink, A: Allocator + Copy, P: Allocator>(
+    lexer: &mut Lexer<A>,
+    machine: &mut Machine<'_, P, A>,
+    sink: &mut K,
+    number: u64,
+    total: u64,
+) -> Stepped
+where
+    K::Fault: Drop,
+    requires running { machine.old.stopped ≡ false }
+    requires mode { machine.old.mode ≡ mode_of lexer.old.context }
+    ensures came { StepsBy K.takes number total lexer.old machine.old result
+        lexer.new machine.new sink.old sink.new }
+    ensures ended { lexer.new.ended ≡ lexer.old.ended }
+    ensures place { lexer.new.place + length lexer.new.rest ≡
+        lexer.old.place + length lexer.old.rest }
+{
     match lexer.next() {
         Ok(Lexed::Item(place, item)) => carry_out_other(machine, sink, number, place, &item),
         Ok(Lexed::NeedMore) => Stepped::More,

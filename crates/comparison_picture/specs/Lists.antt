@@ -13,8 +13,8 @@ change_name changes.Changed = codes "changed"
 change_name changes.OnlyInOld = codes "only in OLD"
 change_name changes.OnlyInNew = codes "only in NEW"
 change_name changes.PageEnds = codes "page ends otherwise"
-change_name changes.PageOnlyInOld = codes "only in OLD"
-change_name changes.PageOnlyInNew = codes "only in NEW"
+change_name changes.PageOnlyInOld = codes "page only in OLD"
+change_name changes.PageOnlyInNew = codes "page only in NEW"
 change_name changes.Covers = codes "covered otherwise"
 
 -- ---- lines of an SVG

@@ -102,8 +102,8 @@ fn change_name(change: PageChange) -> &'static [u8]
         PageChange::OnlyInOld => b"only in OLD",
         PageChange::OnlyInNew => b"only in NEW",
         PageChange::PageEnds => b"page ends otherwise",
-        PageChange::PageOnlyInOld => b"only in OLD",
-        PageChange::PageOnlyInNew => b"only in NEW",
+        PageChange::PageOnlyInOld => b"page only in OLD",
+        PageChange::PageOnlyInNew => b"page only in NEW",
         PageChange::Covers => b"covered otherwise",
     }
 }

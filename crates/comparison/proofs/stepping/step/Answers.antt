@@ -1,13 +1,13 @@
-use Rattle.std.proofs.Common.{ap, ◌∙◌, [], refl, subst, sym, Ok}
+use Rattle.std.proofs.Common.{ap, ◌∙◌, ◌+◌, length, refl, subst, sym}
 use Rattle.pcl_items.specs.declared.item.Item.TheVariants.{Simple}
 use Rattle.pcl_items.specs.Items.{view}
 use Rattle.pcl_items.specs.Modes.{follows}
-use Rattle.pcl_lexer.specs.Lexing.Meaning.{Advances, IsNext, answer_of}
+use Rattle.pcl_lexer.specs.Lexing.Meaning.{answer_of}
+use Rattle.pcl_lexer.specs.Lexing.State.{LexerState}
 use Rattle.pcl_lexer.specs.Modes.{mode_of}
 use Rattle.pcl_lexer.proofs.Lexing.Steps.{item_admitted}
-use Rattle.comparison.specs.declared.stepping.Stepped.TheVariants.{FailsBy}
-use Rattle.comparison.specs.Running.{StepsTo}
-use Rattle.comparison.proofs.Steps.{end_leaves, end_steps, fault_steps, item_leaves, item_steps, wait_leaves, wait_steps}
+use Rattle.comparison.specs.Running.{StepsBy}
+use Rattle.comparison.proofs.Steps.{item_leaves, item_steps}
 use Rattle.comparison.proofs.stepping.step.Goals as goal
 
 pub carry_out-requires-clause-admitted : goal.carry_out-requires-clause-admitted
@@ -17,16 +17,6 @@ carry_out-requires-clause-admitted g c = (
       ∙ item_admitted c.args.lexer.now c.next_known.new.lexer (answer_of c.in-Some.read) c.in-Some.ensures.some c.in-Some.read.place
       (Simple c.in-Some.read.item) refl,
 )
-
-pub carry_out_other-requires-clause-admitted : goal.carry_out_other-requires-clause-admitted
-carry_out_other-requires-clause-admitted g c =
-    let is = c.in-Ok-Item.is ∙ ap Ok c.in-Ok-Item.field-0-is in
-    let next =
-    subst (λ old. IsNext old c.next.result c.next.follows.lender-at-none) c.in_default.ensures.none c.next.follows.holds-at-none in (
-      mode_of c.next.follows.lender-at-none.context,
-      ap (λ mode. follows mode (view c.in-Ok-Item.item)) c.requires.mode
-          ∙ item_admitted c.args.lexer.now c.next.follows.lender-at-none c.next.result next c.in-Ok-Item.place c.in-Ok-Item.item is,
-    )
 
 -- ---- a command
 
@@ -51,125 +41,22 @@ returns-in-Some-clause-ended g c = c.in-Some.ensures.some.ended
 pub returns-in-Some-clause-place : goal.returns-in-Some-clause-place
 returns-in-Some-clause-place g c = c.in-Some.ensures.some.total
 
--- ---- another item
+-- ---- what else stands next
 
-pub returns-in-Ok-Item-clause-came : goal.returns-in-Ok-Item-clause-came
-returns-in-Ok-Item-clause-came g c =
-    let is = c.in-Ok-Item.is ∙ ap Ok c.in-Ok-Item.field-0-is in
-    let next =
-    subst (λ old. IsNext old c.next.result c.next.follows.lender-at-none) c.in_default.ensures.none c.next.follows.holds-at-none in
-    let carried = c.carry_out_other.ensures in record {
-      events = carried.events;
-      taken = carried.taken;
-      came = λ printer panel bytes made total under.
-          item_steps printer panel c.args.number bytes made c.args.lexer.now c.args.machine.now under c.next.result
-          c.next.follows.lender-at-none next c.in-Ok-Item.place c.in-Ok-Item.item is c.carry_out_other.new.machine carried.events
-          c.carry_out_other.result carried.carried;
-      leaves =
-          item_leaves c.args.lexer.now c.next.follows.lender-at-none c.next.result next c.args.machine.now c.in-Ok-Item.place
-          c.in-Ok-Item.item is c.requires.mode c.args.number c.carry_out_other.new.machine carried.events c.carry_out_other.result
-          carried.carried;
-    }
+pub step_row-requires-clause-mode : goal.step_row-requires-clause-mode
+step_row-requires-clause-mode g c =
+    c.requires.mode ∙ ap (λ (lexer : LexerState). mode_of lexer.context) (sym c.in-None.ensures.none)
 
-pub returns-in-Ok-Item-clause-ended : goal.returns-in-Ok-Item-clause-ended
-returns-in-Ok-Item-clause-ended g c =
-    let next =
-    subst (λ old. IsNext old c.next.result c.next.follows.lender-at-none) c.in_default.ensures.none c.next.follows.holds-at-none in
-    next.ended
+pub returns-in-None-clause-came : goal.returns-in-None-clause-came
+returns-in-None-clause-came g c =
+    subst
+    (λ (lexer : LexerState). StepsBy g.K.MarkSink.takes c.args.number c.args.total lexer c.args.machine.now c.step_row.result
+    c.step_row.new.lexer c.step_row.new.machine c.args.sink.now c.step_row.new.sink)
+    c.in-None.ensures.none c.step_row.ensures.came
 
-pub returns-in-Ok-Item-clause-place : goal.returns-in-Ok-Item-clause-place
-returns-in-Ok-Item-clause-place g c =
-    let next =
-    subst (λ old. IsNext old c.next.result c.next.follows.lender-at-none) c.in_default.ensures.none c.next.follows.holds-at-none in
-    next.total
+pub returns-in-None-clause-ended : goal.returns-in-None-clause-ended
+returns-in-None-clause-ended g c = c.step_row.ensures.ended ∙ ap (λ (lexer : LexerState). lexer.ended) c.in-None.ensures.none
 
--- ---- no more bytes
-
-pub returns-in-Ok-NeedMore-clause-came : goal.returns-in-Ok-NeedMore-clause-came
-returns-in-Ok-NeedMore-clause-came g c =
-    let is = c.in-Ok-NeedMore.is ∙ ap Ok c.in-Ok-NeedMore.field-0-is in
-    let next =
-    subst (λ old. IsNext old c.next.result c.next.follows.lender-at-none) c.in_default.ensures.none c.next.follows.holds-at-none in
-    record {
-      events = [];
-      taken = refl;
-      came = λ printer panel bytes made total under.
-          wait_steps printer panel c.args.number bytes made c.args.lexer.now c.args.machine.now under c.next.result
-          c.next.follows.lender-at-none next is c.args.machine.now [] refl;
-      leaves =
-          wait_leaves c.args.lexer.now c.next.follows.lender-at-none c.next.result next c.args.machine.now is c.requires.running
-          c.requires.mode [] refl;
-    }
-
-pub returns-in-Ok-NeedMore-clause-ended : goal.returns-in-Ok-NeedMore-clause-ended
-returns-in-Ok-NeedMore-clause-ended g c =
-    let next =
-    subst (λ old. IsNext old c.next.result c.next.follows.lender-at-none) c.in_default.ensures.none c.next.follows.holds-at-none in
-    next.ended
-
-pub returns-in-Ok-NeedMore-clause-place : goal.returns-in-Ok-NeedMore-clause-place
-returns-in-Ok-NeedMore-clause-place g c =
-    let next =
-    subst (λ old. IsNext old c.next.result c.next.follows.lender-at-none) c.in_default.ensures.none c.next.follows.holds-at-none in
-    next.total
-
--- ---- the end
-
-pub returns-in-Ok-End-clause-came : goal.returns-in-Ok-End-clause-came
-returns-in-Ok-End-clause-came g c =
-    let is = c.in-Ok-End.is ∙ ap Ok c.in-Ok-End.field-0-is in
-    let next =
-    subst (λ old. IsNext old c.next.result c.next.follows.lender-at-none) c.in_default.ensures.none c.next.follows.holds-at-none in
-    let ended = c.carry_out_end.ensures in record {
-      events = ended.events;
-      taken = ended.taken;
-      came = λ printer panel bytes made total under.
-          end_steps printer panel c.args.number bytes made c.args.lexer.now c.args.machine.now under c.next.result
-          c.next.follows.lender-at-none next is c.args.total total c.carry_out_end.new.machine ended.events c.carry_out_end.result
-          ended.ends;
-      leaves =
-          end_leaves c.args.lexer.now c.next.follows.lender-at-none c.next.result next c.args.machine.now is c.args.number c.args.total
-          c.carry_out_end.new.machine ended.events c.carry_out_end.result ended.ends;
-    }
-
-pub returns-in-Ok-End-clause-ended : goal.returns-in-Ok-End-clause-ended
-returns-in-Ok-End-clause-ended g c =
-    let next =
-    subst (λ old. IsNext old c.next.result c.next.follows.lender-at-none) c.in_default.ensures.none c.next.follows.holds-at-none in
-    next.ended
-
-pub returns-in-Ok-End-clause-place : goal.returns-in-Ok-End-clause-place
-returns-in-Ok-End-clause-place g c =
-    let next =
-    subst (λ old. IsNext old c.next.result c.next.follows.lender-at-none) c.in_default.ensures.none c.next.follows.holds-at-none in
-    next.total
-
--- ---- a fault
-
-pub returns-in-Err-clause-came : goal.returns-in-Err-clause-came
-returns-in-Err-clause-came g c =
-    let next =
-    subst (λ old. IsNext old c.next.result c.next.follows.lender-at-none) c.in_default.ensures.none c.next.follows.holds-at-none in
-    record {
-      events = [];
-      taken = refl;
-      came = λ printer panel bytes made total under.
-          subst
-          (λ failure. StepsTo (FailsBy failure) printer panel c.args.number bytes made c.next.follows.lender-at-none c.args.machine.now [])
-          (sym c.of_fault.ensures)
-          (fault_steps printer panel c.args.number bytes made c.args.lexer.now c.args.machine.now under c.next.result
-          c.next.follows.lender-at-none next c.in-Err.fault c.in-Err.is c.args.machine.now []);
-      leaves = subst (λ answer. Advances c.args.lexer.now answer c.next.follows.lender-at-none) c.in-Err.is next.advances;
-    }
-
-pub returns-in-Err-clause-ended : goal.returns-in-Err-clause-ended
-returns-in-Err-clause-ended g c =
-    let next =
-    subst (λ old. IsNext old c.next.result c.next.follows.lender-at-none) c.in_default.ensures.none c.next.follows.holds-at-none in
-    next.ended
-
-pub returns-in-Err-clause-place : goal.returns-in-Err-clause-place
-returns-in-Err-clause-place g c =
-    let next =
-    subst (λ old. IsNext old c.next.result c.next.follows.lender-at-none) c.in_default.ensures.none c.next.follows.holds-at-none in
-    next.total
+pub returns-in-None-clause-place : goal.returns-in-None-clause-place
+returns-in-None-clause-place g c =
+    c.step_row.ensures.place ∙ ap (λ (lexer : LexerState). lexer.place + length lexer.rest) c.in-None.ensures.none
