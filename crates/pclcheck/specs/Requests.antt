@@ -1,7 +1,7 @@
 -- What the program leaves of what it is asked for. Nothing is known of its files beforehand; the history of files tells
 -- which were read and which were written, and under which words texts of profiles were asked for.
 use Rattle.renderings.specs.Expected.{list_rendering}
-use Rattle.std.specs.Prelude.{◌≡◌, List, ℕ, None, Option, map, option_map, IsFalse, IsTrue}
+use Rattle.std.specs.Prelude.{◌≡◌, List, ℕ, None, Option, map, option_map, IsFalse, IsTrue, ⊤}
 use Rattle.requests.specs.declared.request.Request.{Request}
 use Rattle.requests.specs.declared.request.Request.TheVariants as requests
 use Rattle.streams.specs.Outlet.{OutletState}
@@ -71,3 +71,17 @@ Fulfils texts (requests.ProfileSheet profile file) status used used' out out' er
     LeavesSheetFor profile.now file.now status used used' err err' × (out' ≡ out)
 Fulfils texts (requests.ProfileFromPjl answer base) status used used' out out' err err' =
     LeavesAnsweredFor answer.now (option_map (λ word. word.now) base) status used used' out out' err err'
+
+-- ---- what is asked for
+
+abbrev pub AsksForPicture : Request → Type 0
+AsksForPicture (requests.Picture job profile choices selection) = ⊤
+AsksForPicture _ = ⊥
+
+abbrev pub AsksForPdf : Request → Type 0
+AsksForPdf (requests.Pdf job profile choices selection is_proof file) = ⊤
+AsksForPdf _ = ⊥
+
+abbrev pub AsksForPin : Request → Type 0
+AsksForPin (requests.Pin job profile choices file) = ⊤
+AsksForPin _ = ⊥

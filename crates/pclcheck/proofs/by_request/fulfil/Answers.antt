@@ -1,7 +1,8 @@
-use Rattle.std.proofs.Common.{ap, map, refl, subst}
+use Rattle.std.proofs.Common.{ap, map, refl, subst, sym}
 use Rattle.profile_commands.specs.ProfileNew.{LeavesProfile}
 use Rattle.named_inputs.specs.Texts.{text_named}
 use Rattle.pclcheck.proofs.Fulfilling.{asked}
+use Rattle.pclcheck.specs.Requests.{AsksForPdf, AsksForPicture, AsksForPin}
 use Rattle.file_requests.specs.JobRequests.{LeavesCheck}
 use Rattle.pclcheck.proofs.by_request.fulfil.Goals as goal
 
@@ -27,11 +28,29 @@ returns-in-List g c = asked _ _ _ _ _ _ _ _ _ _ c.in-List.is (c.list.ensures, re
 pub returns-in-Pages : goal.returns-in-Pages
 returns-in-Pages g c = asked _ _ _ _ _ _ _ _ _ _ c.in-Pages.is (c.pages.ensures, refl)
 
+pub fulfil_picture-requires-clause-picture : goal.fulfil_picture-requires-clause-picture
+fulfil_picture-requires-clause-picture g c = subst AsksForPicture (sym c.in-Picture.is) tt
+
+pub returns-in-Picture : goal.returns-in-Picture
+returns-in-Picture g c = c.fulfil_picture.ensures
+
+pub fulfil_pdf-requires-clause-pdf : goal.fulfil_pdf-requires-clause-pdf
+fulfil_pdf-requires-clause-pdf g c = subst AsksForPdf (sym c.in-Pdf.is) tt
+
+pub returns-in-Pdf : goal.returns-in-Pdf
+returns-in-Pdf g c = c.fulfil_pdf.ensures
+
 pub returns-in-Notes : goal.returns-in-Notes
 returns-in-Notes g c = asked _ _ _ _ _ _ _ _ _ _ c.in-Notes.is (c.notes.ensures, refl)
 
 pub returns-in-Plain : goal.returns-in-Plain
 returns-in-Plain g c = asked _ _ _ _ _ _ _ _ _ _ c.in-Plain.is (c.plain.ensures, refl)
+
+pub fulfil_pin-requires-clause-pin : goal.fulfil_pin-requires-clause-pin
+fulfil_pin-requires-clause-pin g c = subst AsksForPin (sym c.in-Pin.is) tt
+
+pub returns-in-Pin : goal.returns-in-Pin
+returns-in-Pin g c = c.fulfil_pin.ensures
 
 pub returns-in-Explain : goal.returns-in-Explain
 returns-in-Explain g c =
