@@ -7,4 +7,5 @@ mod DrawnLeft
 mod Fleets
 mod Found
 mod GoldenLeft
+mod LookFacts
 mod NameFacts

@@ -131,8 +131,10 @@ LeavesAsked names_from asked status used used' out out' err err' =
     ⊎ (RefusesInput names_from asked status err err' × (out' ≡ out) × (used' ≡ used))
 
 -- jobs of one name are refused, whose documents would be one file, or a folder that cannot have them
-abbrev pub RefusesDocuments : (folder : List ℕ) → (jobs : List (List ℕ)) → Status → OutletState → OutletState → Type 0
-RefusesDocuments folder jobs status err err' = RefusesName jobs status err err' ⊎ RefusesFolder folder status err err'
+abbrev pub RefusesDocuments : (folder : List ℕ) → (jobs : List (List ℕ)) → Status → List FileUse → List FileUse →
+    OutletState → OutletState → Type 0
+RefusesDocuments folder jobs status used used' err err' =
+    (RefusesName jobs status err err' × (used' ≡ used)) ⊎ RefusesFolder folder status used used' err err'
 
 -- They are checked, and behind that their documents are written; or these are refused.
 pub record LeavesDocuments (folder : List ℕ) (names_from : Option (List ℕ)) (fleets : List (List ℕ)) (asked : Asked)
@@ -158,7 +160,7 @@ LeavesWith None names_from fleets asked status used used' out out' err err' =
     LeavesAsked names_from asked status used used' out out' err err'
 LeavesWith (Some folder) names_from fleets asked status used used' out out' err err' =
     LeavesDocuments folder names_from fleets asked status used used' out out' err err'
-    ⊎ (RefusesDocuments folder asked.jobs status err err' × (out' ≡ out) × (used' ≡ used))
+    ⊎ (RefusesDocuments folder asked.jobs status used used' err err' × (out' ≡ out))
 
 -- the jobs to which a list of these bytes leads are checked, or the list is refused, no line is written and nothing
 -- more read

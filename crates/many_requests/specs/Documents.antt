@@ -1,6 +1,6 @@
 -- What the documents of jobs that are checked leave, each a file in a folder.
 use Rattle.std.specs.Prelude.{◌≡◌, ◌⊎◌, ◌&&◌, ◌||◌, ◌∷◌, ◌++◌, ℕ, Bool, true, false, not, List, []}
-use Rattle.std.specs.Prelude.{Contains, Option, None, Some, codes, get_or, if◌then◌else◌, nat_eq, IsFalse, ⊤}
+use Rattle.std.specs.Prelude.{Contains, Option, None, Some, codes, get_or, if◌then◌else◌, nat_eq, IsFalse}
 use Rattle.std.specs.List.{ends_with, list_any}
 use Rattle.std.specs.Str.{IsUtf8, bytes_eq}
 use Rattle.file_requests.specs.JobRequests.{LeavesPdfAt}
@@ -8,6 +8,7 @@ use Rattle.job_reports.specs.JobSentences.{named_first}
 use Rattle.job_rows.specs.Links.{document_path, last_part}
 use Rattle.many_jobs.specs.CheckMany.{Asked}
 use Rattle.many_jobs.specs.JobRow.{document_in, is_read_once}
+use Rattle.many_requests.specs.Looks.{Finds}
 use Rattle.requests.specs.declared.selection.DrawnPages.TheVariants.{All}
 use Rattle.requests.specs.declared.selection.Selection.{Selection}
 use Rattle.requests.specs.declared.status.Status.{Status}
@@ -146,14 +147,15 @@ pub record WritesPdf (d : DocumentsAsked) (word job path : List ℕ) (well : Boo
   pub well_is : well ≡ is_written status
   pub told : WritesIfSound (document_text d.has_errors job status note'.taken) err err'
 
--- why it could not be: there is no memory, the job's name or its path is no text, or a file that is read stands there
-abbrev pub IsCauseOfLoss : Error → DocumentsAsked → (job path : List ℕ) → Type 0
-IsCauseOfLoss Memory d job path = ⊤
-IsCauseOfLoss Read d job path = IsUtf8 job → IsUtf8 path → ⊥
-IsCauseOfLoss Write d job path = (name : List ℕ) × IsReadBy d name
-IsCauseOfLoss Turns d job path = ⊥
-IsCauseOfLoss NoProfile d job path = ⊥
-IsCauseOfLoss Items d job path = ⊥
+-- why it could not be, and what the history of files has of that: there is no memory, or the job's name or its path is
+-- no text, and nothing; or a file that is read stands there, as a look found
+abbrev pub IsCauseOfLoss : Error → DocumentsAsked → (job path : List ℕ) → List FileUse → List FileUse → Type 0
+IsCauseOfLoss Memory d job path used used' = used' ≡ used
+IsCauseOfLoss Read d job path used used' = (IsUtf8 job → IsUtf8 path → ⊥) × (used' ≡ used)
+IsCauseOfLoss Write d job path used used' = (name : List ℕ) × IsReadBy d name × Finds path (Some name) used used'
+IsCauseOfLoss Turns d job path used used' = ⊥
+IsCauseOfLoss NoProfile d job path used used' = ⊥
+IsCauseOfLoss Items d job path used used' = ⊥
 
 -- and what is told of it: of a name that is no text the check told that the job cannot be read
 abbrev pub TellsLoss : Error → (job : List ℕ) → OutletState → OutletState → Type 0
@@ -164,9 +166,8 @@ TellsLoss error job err err' = WritesIfSound (lost_line job (error_words error))
 pub record LosesDocument (d : DocumentsAsked) (job path : List ℕ) (well : Bool) (used used' : List FileUse)
     (err err' : OutletState) : Type 0 where
   pub error : Error
-  pub cause : IsCauseOfLoss error d job path
+  pub cause : IsCauseOfLoss error d job path used used'
   pub well_is : well ≡ false
-  pub unused : used' ≡ used
   pub told : TellsLoss error job err err'
 
 -- the first of the printers that are asked for

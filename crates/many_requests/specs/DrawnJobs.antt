@@ -1,6 +1,8 @@
 -- What a comparison of two jobs leaves that is made on files, with a picture of what differs.
-use Rattle.std.specs.Prelude.{◌≡◌, ◌⊎◌, ℕ, Bool, List, [], ◌∷◌, ◌++◌, map, IsFalse, IsTrue, false, true}
+use Rattle.std.specs.Prelude.{◌≡◌, ◌⊎◌, ℕ, Bool, List, [], ◌∷◌, ◌++◌, map, Contains, IsFalse, IsTrue, false, true}
+use Rattle.std.specs.Prelude.{None, Option, Some}
 use Rattle.requests.specs.declared.status.Input.{Input}
+use Rattle.requests.specs.declared.status.Input.TheVariants.{Job, Profile}
 use Rattle.requests.specs.declared.status.Status.{Status}
 use Rattle.requests.specs.declared.status.Status.TheVariants.{Overwrites, Stopped}
 use Rattle.streams.specs.Ended.{JobRead}
@@ -14,6 +16,7 @@ use Rattle.compare_command.specs.declared.drawing.Drawn.{Drawn}
 use Rattle.job_reports.specs.Pipes.{RefusesPipe}
 use Rattle.named_inputs.specs.Texts.{text_named}
 use Rattle.many_requests.specs.Checks.{UsesAll}
+use Rattle.many_requests.specs.Looks.{Finds}
 use Rattle.many_requests.specs.Reads.{read_for_each, reads_input_twice}
 
 -- ---- OUT
@@ -51,12 +54,24 @@ pub record LeavesDrawnJobs (asked : Asked) (into : List ℕ) (status : Status) (
   pub left : LeavesDrawn (map text_named asked.printers) [] texts asked (λ name. no_source) drawn [] ended no_outlet
       file out out' err err'
 
--- so it is, unless OUT is a file that is read: then nothing is written and nothing read
+-- a file of this name is read: a job, or a profile
+abbrev pub IsInput : Input → Asked → (name : List ℕ) → Type 0
+IsInput Job asked name = (name ≡ asked.old_name) ⊎ (name ≡ asked.new_name)
+IsInput Profile asked name = Contains asked.printers name
+
+-- such a file was found at a path, as the history of files has it, or none
+abbrev pub FindsInput : Asked → (path : List ℕ) → Option Input → List FileUse → List FileUse → Type 0
+FindsInput asked path None used used' = used' ≡ used
+FindsInput asked path (Some read) used used' =
+    (name : List ℕ) × IsInput read asked name × Finds path (Some name) used used'
+
+-- so it is, unless OUT is a file that is read, as a look found: then nothing is written and nothing read
 abbrev pub LeavesUnlessRead : Asked → (into : List ℕ) → Status → List FileUse → List FileUse → OutletState →
     OutletState → OutletState → OutletState → Type 0
 LeavesUnlessRead asked into status used used' out out' err err' =
     LeavesDrawnJobs asked into status used used' out out' err err'
-    ⊎ ((read : Input) × (status ≡ Overwrites read) × (err' ≡ err) × (out' ≡ out) × (used' ≡ used))
+    ⊎ ((read : Input) × (status ≡ Overwrites read) × FindsInput asked into (Some read) used used' × (err' ≡ err)
+    × (out' ≡ out))
 
 -- and unless one of the jobs is refused that can be read only once
 abbrev pub LeavesDrawnOnFiles : Asked → (into : List ℕ) → Status → List FileUse → List FileUse → OutletState →

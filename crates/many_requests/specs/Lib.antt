@@ -7,5 +7,6 @@ pub mod Folders
 pub mod GoldenJobs
 pub mod Inputs
 pub mod Lists
+pub mod Looks
 pub mod Names
 pub mod Reads

@@ -1,6 +1,7 @@
 //! The documents of jobs that are checked, each a file in a folder.
-ghost use Rattle.std.specs.Prelude.{◌≡◌, ◌⊎◌, ◌&&◌, ◌++◌, Contains, IfNone, IfOk, IfSome, IsFalse};
-ghost use Rattle.std.specs.Prelude.{List, MatchOption, None, OnOk, Some, map, option_map, ℕ};
+ghost use Rattle.std.specs.Prelude.{◌≡◌, ◌⊎◌, ◌&&◌, ◌++◌, ◌∷◌, [], Contains, IfNone, IfOk, IfSome};
+ghost use Rattle.std.specs.Prelude.{IsFalse, IsTrue, List, MatchOption, None, OnOk, Some, map};
+ghost use Rattle.std.specs.Prelude.{option_map, ℕ};
 ghost use Rattle.std.specs.Str.{IsUtf8, bytes_eq};
 ghost use Rattle.job_rows.specs.Links.{document_path};
 ghost use Rattle.many_jobs.specs.JobRow.{document_in};
@@ -14,9 +15,11 @@ ghost use Rattle.many_requests.specs.Documents.{ends_in_pdf, has_lines, has_same
 ghost use Rattle.many_requests.specs.Documents.{is_namesake, is_quiet, is_taken, is_told};
 ghost use Rattle.many_requests.specs.Documents.{is_written, lost_line, namesake, other_part};
 ghost use Rattle.many_requests.specs.Documents.{same_line, same_named};
+ghost use Rattle.many_requests.specs.Looks.{Finds};
 ghost use Rattle.requests.specs.Status.{error_words};
+ghost use Rattle.streams.specs.Used.{SameFile};
 
-use crate::drawn_jobs::is_same_file;
+use crate::looks::first_same;
 use file_requests::job_texts::pdf;
 use job_reports::{push_named_first, refuse_words};
 use job_rows::{JobDocument, last_part, push_document_path};
@@ -335,7 +338,7 @@ fn write_apart<R: Files + Print + AllocGlobal, E: Outlet>(
         ⊎ LosesDocument (documents_asked documents.now) job.now path.now result
         used.old used.new (E.state stderr.old) (E.state stderr.new) }
 {
-    match read_there(rt, documents, path) {
+    match read_there(rt, documents, path, used) {
         Some(_) => {
             tell_lost(rt.alloc(), job.as_bytes(), Error::Write, stderr);
             false
@@ -347,17 +350,19 @@ fn write_apart<R: Files + Print + AllocGlobal, E: Outlet>(
 // ---- files that are read
 
 /// The file that the check reads and to which a path leads, if there is one. No clause can say what
-/// stands at a path.
+/// stands at a path, but that a look found it.
 fn read_there<'d, R: Files>(
     rt: &R,
     documents: &'d Documents<'_, '_, '_>,
     path: &str,
+    used: &mut FilesUsed,
 ) -> Option<&'d [u8]>
-    ensures { IfSome result (λ name. IsReadBy (documents_asked documents.now) name.now) }
+    ensures is_read { IfSome result (λ name. IsReadBy (documents_asked documents.now) name.now) }
+    ensures found { Finds path.now (option_map (λ name. name.now) result) used.old used.new }
 {
-    match first_same(rt, documents.many.printers, path) {
+    match first_same(rt, documents.many.printers, path, used) {
         Some(word) => Some(word.as_bytes()),
-        None => read_beside(rt, documents, path),
+        None => read_beside(rt, documents, path, used),
     }
 }
 
@@ -366,12 +371,15 @@ fn read_beside<'d, R: Files>(
     rt: &R,
     documents: &'d Documents<'_, '_, '_>,
     path: &str,
+    used: &mut FilesUsed,
 ) -> Option<&'d [u8]>
-    ensures { IfSome result (λ name. IsReadBeside (documents_asked documents.now) name.now) }
+    ensures is_read { IfSome result (λ name.
+        IsReadBeside (documents_asked documents.now) name.now) }
+    ensures found { Finds path.now (option_map (λ name. name.now) result) used.old used.new }
 {
-    match first_same(rt, documents.fleets, path) {
+    match first_same(rt, documents.fleets, path, used) {
         Some(fleet) => Some(fleet.as_bytes()),
-        None => read_for_jobs(rt, documents, path),
+        None => read_for_jobs(rt, documents, path, used),
     }
 }
 
@@ -380,53 +388,62 @@ fn read_for_jobs<'d, R: Files>(
     rt: &R,
     documents: &'d Documents<'_, '_, '_>,
     path: &str,
+    used: &mut FilesUsed,
 ) -> Option<&'d [u8]>
-    ensures { IfSome result (λ name. IsReadForJobs (documents_asked documents.now) name.now) }
+    ensures is_read { IfSome result (λ name.
+        IsReadForJobs (documents_asked documents.now) name.now) }
+    ensures found { Finds path.now (option_map (λ name. name.now) result) used.old used.new }
 {
-    match same_list(rt, documents.names_from, path) {
+    match same_list(rt, documents.names_from, path, used) {
         Some(list) => Some(list.as_bytes()),
-        None => linked_job(rt, documents.many.jobs, path),
+        None => linked_job(rt, documents.many.jobs, path, used),
     }
-}
-
-/// The first of these words that leads to the same file.
-fn first_same<'w, R: Files>(rt: &R, words: &[&'w str], path: &str) -> Option<&'w str>
-    ensures { IfSome result (λ word. Contains (map (λ word. word.now) words.now) word.now) }
-{
-    for word in words {
-        if is_same_file(rt, path, word) {
-            return Some(*word);
-        }
-    }
-    None
 }
 
 /// The list of jobs, where it is the same file.
-fn same_list<'l, R: Files>(rt: &R, names_from: Option<&'l str>, path: &str) -> Option<&'l str>
-    ensures { IfSome result (λ list.
+fn same_list<'l, R: Files>(
+    rt: &R,
+    names_from: Option<&'l str>,
+    path: &str,
+    used: &mut FilesUsed,
+) -> Option<&'l str>
+    ensures is_list { IfSome result (λ list.
         option_map (λ path. path.now) names_from.entry ≡ Some list.now) }
+    ensures found { Finds path.now (option_map (λ list. list.now) result) used.old used.new }
 {
     match names_from {
         None => None,
-        Some(list) => list_there(rt, list, path),
+        Some(list) => list_there(rt, list, path, used),
     }
 }
 
-fn list_there<'l, R: Files>(rt: &R, list: &'l str, path: &str) -> Option<&'l str>
-    ensures { IfSome result (λ found. found.now ≡ list.now) }
+fn list_there<'l, R: Files>(
+    rt: &R,
+    list: &'l str,
+    path: &str,
+    used: &mut FilesUsed,
+) -> Option<&'l str>
+    ensures is_list { IfSome result (λ found. found.now ≡ list.now) }
+    ensures found { Finds path.now (option_map (λ list. list.now) result) used.old used.new }
 {
-    if is_same_file(rt, path, list) {
+    if used.is_same_file(rt, path, list) {
         return Some(list);
     }
     None
 }
 
 /// The job to which a path is a link. A job of the path's own name ends in `.pdf`, and was refused.
-fn linked_job<'n, R: Files>(rt: &R, jobs: &[&'n [u8]], path: &str) -> Option<&'n [u8]>
-    ensures { IfSome result (λ job. Contains (map (λ job. job.now) jobs.now) job.now) }
+fn linked_job<'n, R: Files>(
+    rt: &R,
+    jobs: &[&'n [u8]],
+    path: &str,
+    used: &mut FilesUsed,
+) -> Option<&'n [u8]>
+    ensures is_one { IfSome result (λ job. Contains (map (λ job. job.now) jobs.now) job.now) }
+    ensures found { Finds path.now (option_map (λ job. job.now) result) used.old used.new }
 {
     if is_link(rt, path) {
-        return first_job(rt, jobs, path);
+        return first_job(rt, jobs, path, used);
     }
     None
 }
@@ -439,20 +456,29 @@ fn is_link<R: Files>(rt: &R, path: &str) -> bool {
 }
 
 /// The first of the jobs that is the file to which a path leads.
-fn first_job<'n, R: Files>(rt: &R, jobs: &[&'n [u8]], path: &str) -> Option<&'n [u8]>
-    ensures { IfSome result (λ job. Contains (map (λ job. job.now) jobs.now) job.now) }
+fn first_job<'n, R: Files>(
+    rt: &R,
+    jobs: &[&'n [u8]],
+    path: &str,
+    used: &mut FilesUsed,
+) -> Option<&'n [u8]>
+    ensures is_one { IfSome result (λ job. Contains (map (λ job. job.now) jobs.now) job.now) }
+    ensures found { Finds path.now (option_map (λ job. job.now) result) used.old used.new }
 {
     for job in jobs {
-        if is_at(rt, job, path) {
+        if is_at(rt, job, path, used) {
             return Some(*job);
         }
     }
     None
 }
 
-fn is_at<R: Files>(rt: &R, job: &[u8], path: &str) -> bool {
+fn is_at<R: Files>(rt: &R, job: &[u8], path: &str, used: &mut FilesUsed) -> bool
+    ensures told { IsTrue result → used.new ≡ used.old ++ SameFile path.now job.now ∷ [] }
+    ensures quiet { IsFalse result → used.new ≡ used.old }
+{
     match str::from_utf8(job) {
-        Ok(name) => is_same_file(rt, path, name),
+        Ok(name) => used.is_same_file(rt, path, name),
         Err(_) => false,
     }
 }

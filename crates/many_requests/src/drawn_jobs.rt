@@ -2,18 +2,17 @@
 
 ghost use Rattle.std.specs.Prelude.{◌≢◌, [], IsFalse};
 ghost use Rattle.compare_command.specs.Compare.{asked_for};
-ghost use Rattle.many_requests.specs.DrawnJobs.{EndsDrawn, LeavesDrawnJobs, LeavesDrawnOnFiles};
-ghost use Rattle.many_requests.specs.DrawnJobs.{LeavesUnlessRead};
+ghost use Rattle.many_requests.specs.DrawnJobs.{EndsDrawn, FindsInput, LeavesDrawnJobs};
+ghost use Rattle.many_requests.specs.DrawnJobs.{LeavesDrawnOnFiles, LeavesUnlessRead};
 
 use crate::inputs::READ_FOR_EACH;
+use crate::looks::first_same;
 use crate::read_again::gone_once_read;
 use compare_command::{CompareAsked, Drawn, compare_drawn};
 use job_reports::refuse_pipe;
 use named_inputs::{FileJobs, FileTexts};
 use requests::{Input as Read, Status};
-use std::fs;
 use std::io::{Input, Print};
-use std::os::unix::fs::MetadataExt;
 use std::rt::Files;
 use streams::{Error, FileOutlet, FilesUsed, Outlet, OutletAt};
 
@@ -59,7 +58,7 @@ fn draw_unless_read<'r, R: Files + Input + Print + AllocGlobal, O: Outlet, E: Ou
     ensures { LeavesUnlessRead (asked_for asked.now) path.now result used.old used.new
         (O.state stdout.old) (O.state stdout.new) (E.state stderr.old) (E.state stderr.new) }
 {
-    match overwritten(rt, asked, path) {
+    match overwritten(rt, asked, path, used) {
         Some(read) => Status::Overwrites(read),
         None => draw_jobs(rt, asked, path, used, stdout, stderr),
     }
@@ -111,25 +110,37 @@ fn end_drawn<R: Files + Print>(drawn: Drawn, out: &mut FileOutlet<'_, R>) -> Sta
 }
 
 /// Which of the files that are read is the one that would be written, if one is. No clause can say
-/// what stands at a path.
-fn overwritten<R: Files>(rt: &R, asked: &CompareAsked<'_, '_>, path: &str) -> Option<Read> {
-    if is_same_file(rt, path, asked.old_name) || is_same_file(rt, path, asked.new_name) {
+/// what stands at a path, but that a look found it.
+fn overwritten<R: Files>(
+    rt: &R,
+    asked: &CompareAsked<'_, '_>,
+    path: &str,
+    used: &mut FilesUsed,
+) -> Option<Read>
+    ensures { FindsInput (asked_for asked.now) path.now result used.old used.new }
+{
+    let is_old = used.is_same_file(rt, path, asked.old_name);
+    if is_old {
         return Some(Read::Job);
     }
-    for word in asked.printers {
-        if is_same_file(rt, path, word) {
-            return Some(Read::Profile);
-        }
+    let is_new = used.is_same_file(rt, path, asked.new_name);
+    if is_new {
+        return Some(Read::Job);
     }
-    None
+    overwritten_profile(rt, asked, path, used)
 }
 
-/// Whether two paths lead to one regular file.
-pub(crate) fn is_same_file<R: Files>(rt: &R, one: &str, other: &str) -> bool {
-    match (fs::metadata(rt, one), fs::metadata(rt, other)) {
-        (Ok(one), Ok(other)) => {
-            one.is_file() && other.is_file() && one.dev() == other.dev() && one.ino() == other.ino()
-        }
-        _ => false,
+/// The same of the profiles alone.
+fn overwritten_profile<R: Files>(
+    rt: &R,
+    asked: &CompareAsked<'_, '_>,
+    path: &str,
+    used: &mut FilesUsed,
+) -> Option<Read>
+    ensures { FindsInput (asked_for asked.now) path.now result used.old used.new }
+{
+    match first_same(rt, asked.printers, path, used) {
+        Some(_) => Some(Read::Profile),
+        None => None,
     }
 }

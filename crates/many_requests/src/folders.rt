@@ -1,7 +1,8 @@
 //! Folders that cannot have the documents of jobs.
 ghost use Rattle.std.specs.Prelude.{◌≡◌, IfNone, IfOk, IfSome, IsFalse, None, map};
 ghost use Rattle.many_requests.specs.Documents.{same_named};
-ghost use Rattle.many_requests.specs.Folders.{RefusesFolder, RefusesFolderFor, folder_line};
+ghost use Rattle.many_requests.specs.Folders.{RefusesFolder, RefusesFolderFor, TellsFolder};
+ghost use Rattle.many_requests.specs.Folders.{folder_line};
 ghost use Rattle.many_requests.specs.Checks.{RefusesDocuments};
 
 use crate::documents::refuse_names;
@@ -9,9 +10,9 @@ use job_reports::{push_named_first, refuse_words};
 use named_inputs::system_words::system_words;
 use requests::Status;
 use std::alloc::{AllocError, Global};
+use std::io;
 use std::rt::Files;
-use std::{fs, io};
-use streams::{Error, Outlet};
+use streams::{Error, FilesUsed, Outlet};
 
 /// Why the system said no, where it says nothing more.
 const UNKNOWN: &[u8] = b"the system does not tell why";
@@ -22,57 +23,47 @@ pub(crate) fn refuse_documents<R: Files + AllocGlobal, E: Outlet>(
     rt: &R,
     folder: &str,
     jobs: &[&[u8]],
+    used: &mut FilesUsed,
     stderr: &mut E,
 ) -> Option<Status>
     requires { IsFalse (E.state stderr.old).failed }
     ensures apart { IfNone result (same_named (map (λ job. job.now) jobs.now) ≡ None) }
     ensures quiet { IfNone result (stderr.new ≡ stderr.old) }
+    ensures unused { IfNone result (used.new ≡ used.old) }
     ensures refused { IfSome result (λ status. RefusesDocuments folder.now
-        (map (λ job. job.now) jobs.now) status (E.state stderr.old) (E.state stderr.new)) }
+        (map (λ job. job.now) jobs.now) status used.old used.new
+        (E.state stderr.old) (E.state stderr.new)) }
 {
     match refuse_names(rt.alloc(), jobs, stderr) {
         Some(status) => Some(status),
-        None => refuse_folder(rt, folder, stderr),
+        None => refuse_folder(rt, folder, used, stderr),
     }
 }
 
-/// Refuses a folder that is not there, or cannot be entered.
+/// Refuses a folder that is not there, or cannot be entered, as a look finds.
 fn refuse_folder<R: Files + AllocGlobal, E: Outlet>(
     rt: &R,
     folder: &str,
+    used: &mut FilesUsed,
     stderr: &mut E,
 ) -> Option<Status>
     requires { IsFalse (E.state stderr.old).failed }
     ensures quiet { IfNone result (stderr.new ≡ stderr.old) }
+    ensures unused { IfNone result (used.new ≡ used.old) }
     ensures refused { IfSome result (λ status. RefusesFolder folder.now status
-        (E.state stderr.old) (E.state stderr.new)) }
+        used.old used.new (E.state stderr.old) (E.state stderr.new)) }
 {
-    match folder_fault(rt, folder) {
+    match used.enter(rt, folder) {
         Ok(None) => None,
         Ok(Some(error)) => Some(tell_folder(rt.alloc(), folder, error, stderr)),
         Err(_) => Some(Status::Stopped(Error::Memory)),
     }
 }
 
-/// What the system says of a folder, where it cannot be entered. No clause can say what stands at a
-/// path.
-fn folder_fault<R: Files + AllocGlobal>(
-    rt: &R,
-    folder: &str,
-) -> Result<Option<io::Error>, AllocError> {
-    let mut inside = String::new(rt.alloc());
-    inside.push_str(folder)?;
-    inside.push_str("/.")?;
-    match fs::metadata(rt, inside.as_str()) {
-        Ok(_) => Ok(None),
-        Err(error) => Ok(Some(error)),
-    }
-}
-
 /// Tells standard error of a folder of which the system says this.
 fn tell_folder<E: Outlet>(alloc: Global, folder: &str, error: io::Error, stderr: &mut E) -> Status
     requires { IsFalse (E.state stderr.old).failed }
-    ensures { RefusesFolder folder.now result (E.state stderr.old) (E.state stderr.new) }
+    ensures { TellsFolder folder.now result (E.state stderr.old) (E.state stderr.new) }
 {
     match system_words(alloc, Some(error)) {
         Some(words) => tell_cause(alloc, folder, words.as_bytes(), stderr),

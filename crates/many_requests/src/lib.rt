@@ -8,6 +8,7 @@ mod folders;
 mod golden_jobs;
 mod inputs;
 mod lists;
+mod looks;
 mod many;
 mod names;
 mod read_again;

@@ -144,7 +144,7 @@ fn check_into<'r, R: Files + Input + Print + AllocGlobal, O: Outlet, E: Outlet>(
         result used.old used.new (O.state stdout.old) (O.state stdout.new)
         (E.state stderr.old) (E.state stderr.new) }
 {
-    if let Some(status) = refuse_documents(rt, folder, many.jobs, stderr) {
+    if let Some(status) = refuse_documents(rt, folder, many.jobs, used, stderr) {
         return status;
     }
     let answer = check_all(rt, names_from, many, used, stdout, stderr);

@@ -24,4 +24,4 @@ returns-in-Some g c =
 
 pub returns-in-None : goal.returns-in-None
 returns-in-None g c =
-    inr (record { error = Read; cause = c.in-None.ensures; well_is = refl; unused = refl; told = refl })
+    inr (record { error = Read; cause = (c.in-None.ensures, refl); well_is = refl; told = refl })

@@ -37,4 +37,4 @@ returns-in-Err g c =
     (λ once. WritesDocumentBy once (documents_asked c.args.documents.now) c.args.job.now false c.args.used.now c.args.used.now
     (g.E.Outlet.state c.args.stderr.now) (g.E.Outlet.state c.tell_lost.new.stderr))
     (sym (sym c.is_read_once.ensures ∙ c.if-is_read_once.false))
-    (inr (record { error = Memory; cause = tt; well_is = refl; unused = refl; told = c.tell_lost.ensures }))
+    (inr (record { error = Memory; cause = refl; well_is = refl; told = c.tell_lost.ensures }))

@@ -1,11 +1,12 @@
-use Rattle.std.proofs.Common.{Bool, inl, inr, map, option_map, refl, subst}
+use Rattle.std.proofs.Common.{Bool, List, inl, inr, map, option_map, refl, subst}
 use Rattle.many_jobs.specs.Asked.{asked_for}
+use Rattle.streams.specs.Used.{FileUse}
 use Rattle.many_requests.specs.Checks.{LeavesAsked}
 use Rattle.many_requests.specs.Documents.{DocumentsAsked, WritesBehind, has_lines}
 use Rattle.many_requests.proofs.many.check_into.Goals as goal
 
 pub returns-in-Some : goal.returns-in-Some
-returns-in-Some g c = inr (c.in-Some.ensures.refused, refl, refl)
+returns-in-Some g c = inr (c.in-Some.ensures.refused, refl)
 
 pub returns : goal.returns
 returns g c =
@@ -28,7 +29,12 @@ returns g c =
           (λ err. LeavesAsked (option_map (λ path. path.now) c.args.names_from) (asked_for c.args.many.now) c.check_all-answer.result
           c.args.used.now c.check_all-answer.new.used (g.O.Outlet.state c.args.stdout.now)
           (g.O.Outlet.state c.check_all-answer.new.stdout) (g.E.Outlet.state err) told)
-          c.in_default.ensures.quiet c.check_all-answer.ensures;
+          c.in_default.ensures.quiet
+          (subst
+          (λ (used : List FileUse). LeavesAsked (option_map (λ path. path.now) c.args.names_from) (asked_for c.args.many.now)
+          c.check_all-answer.result used c.check_all-answer.new.used (g.O.Outlet.state c.args.stdout.now)
+          (g.O.Outlet.state c.check_all-answer.new.stdout) (g.E.Outlet.state c.refuse_documents.new.stderr) told)
+          c.in_default.ensures.unused c.check_all-answer.ensures);
       written =
           subst
           (λ has_errors. WritesBehind (has_lines answer) (asked has_errors) answer c.write_documents.result c.check_all-answer.new.used
