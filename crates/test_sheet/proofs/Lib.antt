@@ -1,3 +1,4 @@
 pub mod Appending
+pub mod Columns
 pub mod Enumerated
 pub mod PartsInTurn

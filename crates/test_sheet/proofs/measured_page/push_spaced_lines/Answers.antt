@@ -1,3 +1,5 @@
+use Rattle.std.proofs.Common.{◌++◌, ◌∙◌, ap, flat_map}
+use Rattle.std.proofs.lemmas.List.{take_all}
 use Rattle.shown_bytes.proofs.Further.{further}
 use Rattle.test_sheet.specs.MeasuredPage.{spaced_line}
 use Rattle.test_sheet.proofs.measured_page.push_spaced_lines.Goals as goal
@@ -7,3 +9,9 @@ loop-number-preserved g c =
     further (spaced_line c.args.area c.args.face.now) c.args.numbers.now c.loop-number.number-index _
     c.args.text.now.items c.loop-number.text.items c.push_spaced_line.new.text.items
     c.loop-number-test.true c.loop-number.invariant c.in_ok-push_spaced_line.ensures
+
+pub returns : goal.returns
+returns g c =
+    let part = spaced_line c.args.area c.args.face.now in
+    c.loop-number.invariant
+    ∙ ap (λ numbers. c.args.text.now.items ++ flat_map part numbers) (take_all _ _ c.loop-number-test.false)
