@@ -67,7 +67,7 @@ class Chromium:
     def __init__(self, home: str) -> None:
         theirs, self.out = os.pipe()
         self.into, written = os.pipe()
-        words = ["nice", "-n", "5", "chromium", "--headless", "--no-sandbox", "--disable-gpu",
+        words = ["chromium", "--headless", "--no-sandbox", "--disable-gpu",
                  "--remote-debugging-pipe", f"--user-data-dir={home}", "about:blank"]
 
         def pipes() -> None:
@@ -169,7 +169,7 @@ class Firefox:
                  "datareporting.policy.dataSubmissionEnabled": False}
         lines = [f"user_pref({json.dumps(name)}, {json.dumps(it)});" for name, it in prefs.items()]
         Path(home, "user.js").write_text("\n".join(lines))
-        words = ["nice", "-n", "5", "firefox-esr", "--headless", "--marionette", "--no-remote",
+        words = ["firefox-esr", "--headless", "--marionette", "--no-remote",
                  "--remote-allow-system-access", "--profile", home]
         self.process = subprocess.Popen(words, env={**os.environ, "HOME": home},
                                         stdout=subprocess.DEVNULL, stderr=subprocess.DEVNULL)
