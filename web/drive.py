@@ -53,12 +53,11 @@ PATIENCE = float(os.environ.get("PATIENCE", "90"))
 class Browser(Protocol):
     """What both browsers do alike."""
 
-    requests: list[str]
-
     def show(self, url: str, size: tuple[int, int], is_dark: bool) -> None: ...
     def run(self, script: str) -> Any: ...
     def give(self, selector: str, files: list[Path]) -> None: ...
     def picture(self, path: Path) -> None: ...
+    def requests(self) -> list[str]: ...
     def end(self) -> None: ...
 
 
@@ -68,7 +67,7 @@ class Chromium:
     def __init__(self, home: str) -> None:
         theirs, self.out = os.pipe()
         self.into, written = os.pipe()
-        words = ["nice", "-n", "5", "chromium", "--headless", "--no-sandbox", "--disable-gpu",
+        words = ["chromium", "--headless", "--no-sandbox", "--disable-gpu",
                  "--remote-debugging-pipe", f"--user-data-dir={home}", "about:blank"]
 
         def pipes() -> None:
@@ -80,7 +79,7 @@ class Chromium:
         self.process = subprocess.Popen(words, preexec_fn=pipes, close_fds=False,
                                         stdout=subprocess.DEVNULL, stderr=subprocess.DEVNULL)
         self.rest, self.count, self.session = b"", 0, ""
-        self.requests: list[str] = []
+        self.asked: list[str] = []
 
     def call(self, method: str, **params: Any) -> dict[str, Any]:
         self.count += 1
@@ -108,7 +107,7 @@ class Chromium:
     def hear(self, event: dict[str, Any]) -> None:
         params = event.get("params", {})
         if event.get("method") == "Network.requestWillBeSent":
-            self.requests.append(params["request"]["url"])
+            self.asked.append(params["request"]["url"])
         if event.get("method") in ("Runtime.exceptionThrown", "Log.entryAdded"):
             print("  told:", json.dumps(params)[:400])
 
@@ -141,13 +140,26 @@ class Chromium:
     def picture(self, path: Path) -> None:
         path.write_bytes(base64.b64decode(self.call("Page.captureScreenshot")["data"]))
 
+    def requests(self) -> list[str]:
+        return self.asked
+
     def end(self) -> None:
         self.call("Browser.close")
         self.process.wait(20)
 
 
+# Firefox has requests of its own, for the system; the page's are kept.
+HEARS = """
+    window.asked = [];
+    Services.obs.addObserver({observe(subject) {
+      const {URI, loadInfo} = subject.QueryInterface(Ci.nsIChannel);
+      if (!loadInfo.triggeringPrincipal.isSystemPrincipal) window.asked.push(URI.spec);
+    }}, 'http-on-modify-request');
+"""
+
+
 class Firefox:
-    """Firefox, by Marionette. It tells no requests here; Chromium does."""
+    """Firefox, by Marionette. It tells of requests by HTTP alone; Chromium of all."""
 
     def __init__(self, home: str) -> None:
         with socket.socket() as free:
@@ -157,14 +169,14 @@ class Firefox:
                  "datareporting.policy.dataSubmissionEnabled": False}
         lines = [f"user_pref({json.dumps(name)}, {json.dumps(it)});" for name, it in prefs.items()]
         Path(home, "user.js").write_text("\n".join(lines))
-        words = ["nice", "-n", "5", "firefox-esr", "--headless", "--marionette", "--no-remote",
+        words = ["firefox-esr", "--headless", "--marionette", "--no-remote",
                  "--remote-allow-system-access", "--profile", home]
         self.process = subprocess.Popen(words, env={**os.environ, "HOME": home},
                                         stdout=subprocess.DEVNULL, stderr=subprocess.DEVNULL)
         self.socket, self.count = self.connect(), 0
-        self.requests: list[str] = []
         self.read()
         self.call("WebDriver:NewSession", capabilities={})
+        self.chrome(HEARS)
 
     def connect(self) -> socket.socket:
         for _ in range(int(PATIENCE * 5)):
@@ -192,12 +204,16 @@ class Firefox:
             raise RuntimeError(f"{method}: {error}")
         return result
 
-    def show(self, url: str, size: tuple[int, int], is_dark: bool) -> None:
+    def chrome(self, script: str) -> Any:
+        """Runs a script in the browser itself."""
         self.call("Marionette:SetContext", value="chrome")
-        scheme = f"Services.prefs.setIntPref('layout.css.prefers-color-scheme.content-override'," \
-            f" {0 if is_dark else 1})"
-        self.call("WebDriver:ExecuteScript", script=scheme, args=[])
+        result = self.run(script)
         self.call("Marionette:SetContext", value="content")
+        return result
+
+    def show(self, url: str, size: tuple[int, int], is_dark: bool) -> None:
+        self.chrome("Services.prefs.setIntPref("
+                    f"'layout.css.prefers-color-scheme.content-override', {0 if is_dark else 1})")
         self.call("WebDriver:SetWindowRect", width=size[0], height=size[1] + 86)
         self.call("WebDriver:Navigate", url=url)
 
@@ -214,6 +230,9 @@ class Firefox:
     def picture(self, path: Path) -> None:
         taken = self.call("WebDriver:TakeScreenshot", full=False)["value"]
         path.write_bytes(base64.b64decode(taken))
+
+    def requests(self) -> list[str]:
+        return self.chrome("return window.asked")
 
     def end(self) -> None:
         self.call("Marionette:Quit", flags=["eForceQuit"])
@@ -306,6 +325,21 @@ def see_fast(browser: Browser) -> None:
         wait(browser, f"document.querySelectorAll('tbody tr').length === 2 && {IS_DONE}")
         opened(browser, "large.pcl")
         print(f"  14 MB on 21 printers, and a page: {time.monotonic() - start:.1f} s")
+
+
+def see_large(browser: Browser) -> None:
+    """Tells how long the page stands still while it checks a job of 100 MB."""
+    wait(browser, "document.body && document.body.dataset.ready")
+    with tempfile.TemporaryDirectory() as folder:
+        large = Path(folder, "large.pcl")
+        large.write_bytes(INVOICE * (100_000_000 // len(INVOICE)))
+        browser.run("let last = performance.now(); window.still = 0; setInterval(() => {"
+                    " const now = performance.now();"
+                    " window.still = Math.max(window.still, now - last); last = now; }, 10)")
+        start = time.monotonic()
+        ready(browser, [PRINTERS[0], large])
+    print(f"  100 MB: {time.monotonic() - start:.1f} s; the page stood still for at most"
+          f" {browser.run('return window.still'):.0f} ms")
 
 
 # Asks a worker of the page's own for the sentence, the notes and the picture of a job.
@@ -430,12 +464,13 @@ SCENES: dict[str, Callable[[Browser], None]] = {
     "report": see_report,
     "hostile": see_hostile,
     "fast": see_fast,
+    "large": see_large,
     "same": see_same,
     "notes": see("open_ends.pcl", "document.querySelectorAll('#notes details')"
                  f".forEach(it => {{ it.open = true; }}); {TO_TOLD}"),
 }
 
-TOLD = ("ways", "hostile", "fast", "same")
+TOLD = ("ways", "hostile", "fast", "large", "same")
 
 
 def table(browser: Browser) -> dict[str, str]:
@@ -482,8 +517,9 @@ def drive(kind: str, page: Path, folder: Path, scenes: list[str]) -> None:
         browser: Browser = Chromium(home) if kind == "chromium" else Firefox(home)
         for name in scenes:
             play(browser, kind, name, page, folder)
-        outside = [url for url in browser.requests if is_outside(url)]
-        print(f"{kind}: {len(browser.requests)} requests, {len(outside)} to the outside", *outside)
+        asked = browser.requests()
+        outside = [url for url in asked if is_outside(url)]
+        print(f"{kind}: {len(asked)} requests, {len(outside)} to the outside", *outside)
         browser.end()
 
 

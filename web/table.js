@@ -52,7 +52,10 @@ function showAll() {
 // A row that has the name of its job.
 /** @param {Job} job */
 function rowOf(job) {
-  const button = makeButton(job.name, () => openOne(job, TOGETHER));
+  const button = makeButton("", () => openOne(job, TOGETHER));
+  // A long name breaks behind these before it breaks within a word.
+  const pieces = job.name.split(/([_.-]+)/);
+  button.append(...pieces.flatMap((piece, at) => (at % 2 === 1 ? [piece, make("wbr")] : piece)));
   return make("tr", {}, make("th", { scope: "row" }, button));
 }
 
