@@ -339,7 +339,7 @@ def see_large(browser: Browser) -> None:
         start = time.monotonic()
         ready(browser, [PRINTERS[0], large])
     print(f"  100 MB: {time.monotonic() - start:.1f} s; the page stood still for at most"
-          f" {browser.run('return window.still'):.0f} ms")
+          f" {browser.run('return window.still'):.0f} ms:", *table(browser).values())
 
 
 # Asks a worker of the page's own for the sentence, the notes and the picture of a job.
