@@ -1,5 +1,5 @@
 //! Checks of a job for a fleet.
-ghost use Rattle.std.specs.Prelude.{◌≡◌, IfErr, IfOk};
+ghost use Rattle.std.specs.Prelude.{IfErr, IfOk};
 ghost use Rattle.foreign_calls.specs.Answers.{IsStop};
 ghost use Rattle.foreign_calls.specs.Checked.{Checks, IsSentenceOf, IsTextOf};
 ghost use Rattle.pclcheck_c.specs.Fleets.{asked};
