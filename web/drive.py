@@ -324,7 +324,8 @@ def see_fast(browser: Browser) -> None:
         browser.give("#files", [large])
         wait(browser, f"document.querySelectorAll('tbody tr').length === 2 && {IS_DONE}")
         opened(browser, "large.pcl")
-        print(f"  14 MB on 21 printers, and a page: {time.monotonic() - start:.1f} s")
+        models = browser.run("return document.querySelectorAll('#models input').length")
+        print(f"  14 MB on {models} printers, and a page: {time.monotonic() - start:.1f} s")
 
 
 def see_large(browser: Browser) -> None:
@@ -339,7 +340,7 @@ def see_large(browser: Browser) -> None:
         start = time.monotonic()
         ready(browser, [PRINTERS[0], large])
     print(f"  100 MB: {time.monotonic() - start:.1f} s; the page stood still for at most"
-          f" {browser.run('return window.still'):.0f} ms")
+          f" {browser.run('return window.still'):.0f} ms:", *table(browser).values())
 
 
 # Asks a worker of the page's own for the sentence, the notes and the picture of a job.

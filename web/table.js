@@ -149,7 +149,8 @@ function showProgress() {
   const percent = Math.floor(100 * reading.share);
   const values = { done, all, percent, name: reading.name };
   const going = say(percent < 100 ? "progressRead" : "progress", values);
-  const ended = say(stopped > 0 ? "progressStopped" : "progressDone", { done, all });
+  const whole = all === 1 ? "progressDoneOne" : "progressDone";
+  const ended = say(stopped > 0 ? "progressStopped" : whole, { done, all });
   byId("progress-told").textContent = waiting > 0 ? going : "";
   byId("told").textContent = waiting > 0 || all === 0 ? "" : ended;
   if (printers().length === 0) byId("told").textContent = say("printersNone");

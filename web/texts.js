@@ -44,6 +44,7 @@ const TEXTS = {
   progressRead: "{done} of {all} checks, reading {name}: {percent} %",
   progressLabel: "Checks that are done",
   progressDone: "All {all} checks are done.",
+  progressDoneOne: "The check is done.",
   progressStopped: "Stopped: {done} of {all} checks are done.",
   stop: "Stop",
   goOn: "Go on",
