@@ -33,7 +33,8 @@ spelled, and by which of them a mark comes to its place, does not matter.
                    covered otherwise
   --within LENGTH  marks are the same whose edges lie off by that at most, each for itself: on paper
                    nothing is shifted, wider or higher by more, but white may cover what it did not.
-                   Pens have to be as wide. In mm or in, as 0.1mm and 0.004in
+                   Pens have to be as wide. In mm or in, as 0.1mm and 0.004in; 0mm is as without
+                   this option
 
 Output, one line:
   SAME pages=N marks=N
@@ -129,7 +130,7 @@ const COMPARE: &CommandRow = &CommandRow {
             id: "GOLDEN",
             short: None,
             long: "golden",
-            value: Value::Text("DIR"),
+            value: Value::Folder("DIR"),
             excludes: None,
             help: "Compares each word with the file of its name in DIR; printers come by -p and -f",
         },
