@@ -85,4 +85,4 @@ value_words (Some left_outs.Pattern) = codes "pclcheck does not check patterns t
 value_words (Some left_outs.Permanent) = codes "pclcheck does not check permanent macros"
 value_words (Some left_outs.Pen) = codes "pclcheck does not check pens other than 0 and 1"
 value_words (Some left_outs.ThinLine) = codes "pclcheck does not check lines as thin as can be"
-value_words (Some left_outs.InMacro) = codes "a value, here or in a macro that runs here, is one that pclcheck does not take"
+value_words (Some left_outs.InMacro) = codes "a value here or in a macro is one that pclcheck does not take"

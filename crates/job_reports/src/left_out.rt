@@ -164,7 +164,6 @@ pub fn value_words(left_out: Option<LeftOut>) -> &'static [u8]
         Some(LeftOut::Permanent) => b"pclcheck does not check permanent macros",
         Some(LeftOut::Pen) => b"pclcheck does not check pens other than 0 and 1",
         Some(LeftOut::ThinLine) => b"pclcheck does not check lines as thin as can be",
-        Some(LeftOut::InMacro) =>
-            b"a value, here or in a macro that runs here, is one that pclcheck does not take",
+        Some(LeftOut::InMacro) => b"a value here or in a macro is one that pclcheck does not take",
     }
 }
