@@ -46,6 +46,8 @@ HOSTILE = {"endless.pcl": b"\x1bE" + INNER + OUTER + b"\x1b&f2y3X" * 3000,
            "<img src=x onerror=alert(1)>.pcl": b"\x1bE<script>alert(1)</script>\x1bE",
            "empty.pcl": b""}
 GIGABYTE = 1 << 30
+# Keys, by the number that Chromium has for each, and by Firefox's letter.
+KEYS = {"Tab": (9, "\ue004"), "Enter": (13, "\ue007"), "Escape": (27, "\ue00c")}
 # How long a page may take, in seconds.
 PATIENCE = float(os.environ.get("PATIENCE", "90"))
 
@@ -56,6 +58,7 @@ class Browser(Protocol):
     def show(self, url: str, size: tuple[int, int], is_dark: bool) -> None: ...
     def run(self, script: str) -> Any: ...
     def give(self, selector: str, files: list[Path]) -> None: ...
+    def press(self, key: str) -> None: ...
     def picture(self, path: Path) -> None: ...
     def requests(self) -> list[str]: ...
     def end(self) -> None: ...
@@ -136,6 +139,12 @@ class Chromium:
         root = self.call("DOM.getDocument")["root"]["nodeId"]
         node = self.call("DOM.querySelector", nodeId=root, selector=selector)["nodeId"]
         self.call("DOM.setFileInputFiles", files=[str(it) for it in files], nodeId=node)
+
+    def press(self, key: str) -> None:
+        told = {"key": key, "code": key, "windowsVirtualKeyCode": KEYS[key][0]}
+        text = {"text": "\r"} if key == "Enter" else {}
+        self.call("Input.dispatchKeyEvent", type="keyDown", **told, **text)
+        self.call("Input.dispatchKeyEvent", type="keyUp", **told)
 
     def picture(self, path: Path) -> None:
         path.write_bytes(base64.b64decode(self.call("Page.captureScreenshot")["data"]))
@@ -226,6 +235,11 @@ class Firefox:
         text = "\n".join(str(it) for it in files)
         self.call("WebDriver:ElementSendKeys", id=next(iter(found.values())), text=text)
         self.run(f"document.querySelector('{selector}').hidden = true")
+
+    def press(self, key: str) -> None:
+        strokes = [{"type": kind, "value": KEYS[key][1]} for kind in ("keyDown", "keyUp")]
+        self.call("WebDriver:PerformActions",
+                  actions=[{"type": "key", "id": "keys", "actions": strokes}])
 
     def picture(self, path: Path) -> None:
         taken = self.call("WebDriver:TakeScreenshot", full=False)["value"]
@@ -429,6 +443,25 @@ def see_ways(browser: Browser) -> None:
         print(f"  {name}: {told}")
 
 
+def see_keys(browser: Browser) -> None:
+    """A job that is opened and closed by keys alone: its row is reached, and has them again."""
+    ready(browser, [PRINTERS[0], PRINTERS[1], *JOBS[:2]])
+    held = "document.activeElement.closest('tbody tr button, dialog button')"
+    presses = 0
+    while not browser.run(f"return Boolean({held})"):
+        presses += 1
+        if presses > 60:
+            raise RuntimeError("no row of the table is reached by the keyboard")
+        browser.press("Tab")
+    browser.press("Enter")
+    wait(browser, IS_DRAWN)
+    name = browser.run("return document.getElementById('job-name').textContent")
+    browser.press("Escape")
+    wait(browser, "!document.getElementById('job').open")
+    back = browser.run(f"return {held}.textContent")
+    print(f"  {presses} times Tab, then Enter: {name} is open; Escape: {back} has the focus")
+
+
 def see(name: str, then: str = "") -> Callable[[Browser], None]:
     """The scene of one job, opened, and of what a script does behind that."""
 
@@ -462,6 +495,7 @@ SCENES: dict[str, Callable[[Browser], None]] = {
     "bytes": see("broken.pcl", TO_TOLD),
     "unchecked": see("page_length.pcl"),
     "ways": see_ways,
+    "keys": see_keys,
     "report": see_report,
     "hostile": see_hostile,
     "fast": see_fast,
@@ -471,7 +505,7 @@ SCENES: dict[str, Callable[[Browser], None]] = {
                  f".forEach(it => {{ it.open = true; }}); {TO_TOLD}"),
 }
 
-TOLD = ("ways", "hostile", "fast", "large", "same")
+TOLD = ("ways", "keys", "hostile", "fast", "large", "same")
 
 
 def table(browser: Browser) -> dict[str, str]:
