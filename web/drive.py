@@ -13,6 +13,7 @@ import base64
 import json
 import os
 import random
+import re
 import shutil
 import socket
 import subprocess
@@ -319,6 +320,16 @@ def see_report(browser: Browser) -> None:
                 " it.hidden = true; scrollTo(0, 0)")
 
 
+def more_printers(folder: Path) -> list[Path]:
+    """Three profiles more than there are models, where there is a program to write them."""
+    files = [folder / f"more_{at}.profile" for at in range(3)] if shutil.which(PROGRAM) else []
+    for file in files:
+        ran = subprocess.run([PROGRAM, "profile", "new", "generic"], capture_output=True,
+                             text=True, check=True)
+        file.write_text(re.sub(r"^size .*$", "size 2", ran.stdout, flags=re.MULTILINE))
+    return files
+
+
 def see_fast(browser: Browser) -> None:
     """Tells how long a small job takes, and one of 14 MB on all models with its first page."""
     wait(browser, "document.body && document.body.dataset.ready")
@@ -331,15 +342,17 @@ def see_fast(browser: Browser) -> None:
     with tempfile.TemporaryDirectory() as folder:
         large = Path(folder, "large.pcl")
         large.write_bytes(INVOICE * (14_000_000 // len(INVOICE)))
-        browser.give("#files", [EXAMPLES / "letter.pcl"])
+        browser.give("#files", [*more_printers(Path(folder)), EXAMPLES / "letter.pcl"])
         wait(browser, IS_DONE)
         print("  first verdict:", browser.run("return window.first - window.begun"), "ms")
         start = time.monotonic()
         browser.give("#files", [large])
         wait(browser, f"document.querySelectorAll('tbody tr').length === 2 && {IS_DONE}")
         opened(browser, "large.pcl")
-        models = browser.run("return document.querySelectorAll('#models input').length")
-        print(f"  14 MB on {models} printers, and a page: {time.monotonic() - start:.1f} s")
+        count = browser.run("return document.querySelectorAll("
+                            "'#models input:checked, #own input:checked').length")
+        print(f"  14 MB on {count} printers, and a page: {time.monotonic() - start:.1f} s:",
+              table(browser)["large.pcl"])
 
 
 def see_large(browser: Browser) -> None:
