@@ -3,43 +3,55 @@
 
     web/build.py FOLDER
 
-In the tree the crate is a library, as the gate proves it. A copy of the tree has it as what the
-toolchain builds for WebAssembly, and is removed again. FOLDER gets module64.wasm, for memories of
-64 bits, and, where binaryen's wasm-opt is there, module.wasm, the same for those of 32 bits, which
-every browser has.
+In the tree the crate is a library, as the gate proves it; what an earlier run on this machine
+proved of the same files is taken from it. A copy of the tree then has the crate as what the
+toolchain builds for WebAssembly, for which it alone is proved once more. FOLDER gets module64.wasm,
+for memories of 64 bits, and, where binaryen's wasm-opt is there, module.wasm, the same for those of
+32 bits, which every browser has.
 """
 
 import re
 import shutil
 import subprocess
 import sys
-import tempfile
 from pathlib import Path
 
 ROOT = Path(__file__).resolve().parent.parent
+
+sys.dont_write_bytecode = True
+sys.path.insert(0, str(ROOT / ".ci"))
+import prover
+import tree
+
 CRATE = "web_module"
+# As much as programs have on Linux, under which the gate runs the same functions.
+STACK = 8 << 20
 LOWERED = ("--enable-memory64", "--enable-bulk-memory", "--enable-sign-ext",
            "--enable-mutable-globals", "--enable-nontrapping-float-to-int",
            "--memory64-lowering", "-O2")
 
 
-def copy_tree(copy: Path) -> None:
-    """The crates, of which one is built for WebAssembly."""
-    shutil.copytree(ROOT / "crates", copy / "crates", ignore=shutil.ignore_patterns("out"))
-    shutil.copy(ROOT / "HANDLES", copy)
-    listed = (ROOT / "crates.txt").read_text(encoding="utf-8")
+def prove(place: Path) -> int:
+    """Proves the crate and all on which it stands, as far as that is not done."""
+    return subprocess.run(["rt", "ci"], cwd=place, env=tree.lanes(), stdin=subprocess.DEVNULL,
+                          check=False).returncode
+
+
+def aim_at_pages(place: Path) -> None:
+    """Has the copy's crate built for WebAssembly."""
+    listed = (place / "crates.txt").read_text(encoding="utf-8")
     changed, count = re.subn(rf"^{CRATE}:", f"{CRATE} wasm64:", listed, flags=re.MULTILINE)
     if count != 1:
         raise ValueError(f"crates.txt has to have {CRATE} once")
-    (copy / "crates.txt").write_text(changed, encoding="utf-8")
+    (place / "crates.txt").write_text(changed, encoding="utf-8")
 
 
-def build(copy: Path, module: Path) -> int:
-    crate = copy / "crates" / CRATE
-    status = subprocess.run(["rt", "lib"], cwd=crate, check=False).returncode
-    if status == 0:
-        shutil.copy(crate / "out" / f"{CRATE}.wasm", module)
-    return status
+def link(place: Path, module: Path) -> int:
+    toolchain = Path(shutil.which("rt")).resolve().parent.parent
+    words = [toolchain / "bin/rattle-link", "--target", "wasm64-unknown-unknown",
+             "--toolchain", toolchain / "toolchain", "--stack", str(STACK), "-o", module,
+             place / "crates" / CRATE / "out" / f"lib{CRATE}.a"]
+    return subprocess.run(words, check=False).returncode
 
 
 def lower(module: Path, lowered: Path) -> int:
@@ -59,9 +71,11 @@ def main(arguments: list[str]) -> int:
     folder = Path(arguments[0])
     folder.mkdir(parents=True, exist_ok=True)
     module = folder / "module64.wasm"
-    with tempfile.TemporaryDirectory(prefix="pclcheck-web-") as copy:
-        copy_tree(Path(copy))
-        status = build(Path(copy), module)
+    with tree.copy(only=tree.with_all_below(CRATE)) as place:
+        status = prove(place)
+        if status == 0:
+            aim_at_pages(place)
+            status = prover.build_library(place, CRATE) or link(place, module)
     return status or lower(module, folder / "module.wasm")
 
 

@@ -13,6 +13,7 @@ import base64
 import json
 import os
 import random
+import re
 import shutil
 import socket
 import subprocess
@@ -46,6 +47,8 @@ HOSTILE = {"endless.pcl": b"\x1bE" + INNER + OUTER + b"\x1b&f2y3X" * 3000,
            "<img src=x onerror=alert(1)>.pcl": b"\x1bE<script>alert(1)</script>\x1bE",
            "empty.pcl": b""}
 GIGABYTE = 1 << 30
+# Keys, by the number that Chromium has for each, and by Firefox's letter.
+KEYS = {"Tab": (9, "\ue004"), "Enter": (13, "\ue007"), "Escape": (27, "\ue00c")}
 # How long a page may take, in seconds.
 PATIENCE = float(os.environ.get("PATIENCE", "90"))
 
@@ -56,6 +59,7 @@ class Browser(Protocol):
     def show(self, url: str, size: tuple[int, int], is_dark: bool) -> None: ...
     def run(self, script: str) -> Any: ...
     def give(self, selector: str, files: list[Path]) -> None: ...
+    def press(self, key: str) -> None: ...
     def picture(self, path: Path) -> None: ...
     def requests(self) -> list[str]: ...
     def end(self) -> None: ...
@@ -136,6 +140,12 @@ class Chromium:
         root = self.call("DOM.getDocument")["root"]["nodeId"]
         node = self.call("DOM.querySelector", nodeId=root, selector=selector)["nodeId"]
         self.call("DOM.setFileInputFiles", files=[str(it) for it in files], nodeId=node)
+
+    def press(self, key: str) -> None:
+        told = {"key": key, "code": key, "windowsVirtualKeyCode": KEYS[key][0]}
+        text = {"text": "\r"} if key == "Enter" else {}
+        self.call("Input.dispatchKeyEvent", type="keyDown", **told, **text)
+        self.call("Input.dispatchKeyEvent", type="keyUp", **told)
 
     def picture(self, path: Path) -> None:
         path.write_bytes(base64.b64decode(self.call("Page.captureScreenshot")["data"]))
@@ -227,6 +237,11 @@ class Firefox:
         self.call("WebDriver:ElementSendKeys", id=next(iter(found.values())), text=text)
         self.run(f"document.querySelector('{selector}').hidden = true")
 
+    def press(self, key: str) -> None:
+        strokes = [{"type": kind, "value": KEYS[key][1]} for kind in ("keyDown", "keyUp")]
+        self.call("WebDriver:PerformActions",
+                  actions=[{"type": "key", "id": "keys", "actions": strokes}])
+
     def picture(self, path: Path) -> None:
         taken = self.call("WebDriver:TakeScreenshot", full=False)["value"]
         path.write_bytes(base64.b64decode(taken))
@@ -305,6 +320,16 @@ def see_report(browser: Browser) -> None:
                 " it.hidden = true; scrollTo(0, 0)")
 
 
+def more_printers(folder: Path) -> list[Path]:
+    """Three profiles more than there are models, where there is a program to write them."""
+    files = [folder / f"more_{at}.profile" for at in range(3)] if shutil.which(PROGRAM) else []
+    for file in files:
+        ran = subprocess.run([PROGRAM, "profile", "new", "generic"], capture_output=True,
+                             text=True, check=True)
+        file.write_text(re.sub(r"^size .*$", "size 2", ran.stdout, flags=re.MULTILINE))
+    return files
+
+
 def see_fast(browser: Browser) -> None:
     """Tells how long a small job takes, and one of 14 MB on all models with its first page."""
     wait(browser, "document.body && document.body.dataset.ready")
@@ -317,15 +342,17 @@ def see_fast(browser: Browser) -> None:
     with tempfile.TemporaryDirectory() as folder:
         large = Path(folder, "large.pcl")
         large.write_bytes(INVOICE * (14_000_000 // len(INVOICE)))
-        browser.give("#files", [EXAMPLES / "letter.pcl"])
+        browser.give("#files", [*more_printers(Path(folder)), EXAMPLES / "letter.pcl"])
         wait(browser, IS_DONE)
         print("  first verdict:", browser.run("return window.first - window.begun"), "ms")
         start = time.monotonic()
         browser.give("#files", [large])
         wait(browser, f"document.querySelectorAll('tbody tr').length === 2 && {IS_DONE}")
         opened(browser, "large.pcl")
-        models = browser.run("return document.querySelectorAll('#models input').length")
-        print(f"  14 MB on {models} printers, and a page: {time.monotonic() - start:.1f} s")
+        count = browser.run("return document.querySelectorAll("
+                            "'#models input:checked, #own input:checked').length")
+        print(f"  14 MB on {count} printers, and a page: {time.monotonic() - start:.1f} s:",
+              table(browser)["large.pcl"])
 
 
 def see_large(browser: Browser) -> None:
@@ -429,6 +456,25 @@ def see_ways(browser: Browser) -> None:
         print(f"  {name}: {told}")
 
 
+def see_keys(browser: Browser) -> None:
+    """A job that is opened and closed by keys alone: its row is reached, and has them again."""
+    ready(browser, [PRINTERS[0], PRINTERS[1], *JOBS[:2]])
+    held = "document.activeElement.closest('tbody tr button, dialog button')"
+    presses = 0
+    while not browser.run(f"return Boolean({held})"):
+        presses += 1
+        if presses > 60:
+            raise RuntimeError("no row of the table is reached by the keyboard")
+        browser.press("Tab")
+    browser.press("Enter")
+    wait(browser, IS_DRAWN)
+    name = browser.run("return document.getElementById('job-name').textContent")
+    browser.press("Escape")
+    wait(browser, "!document.getElementById('job').open")
+    back = browser.run(f"return {held}.textContent")
+    print(f"  {presses} times Tab, then Enter: {name} is open; Escape: {back} has the focus")
+
+
 def see(name: str, then: str = "") -> Callable[[Browser], None]:
     """The scene of one job, opened, and of what a script does behind that."""
 
@@ -462,6 +508,7 @@ SCENES: dict[str, Callable[[Browser], None]] = {
     "bytes": see("broken.pcl", TO_TOLD),
     "unchecked": see("page_length.pcl"),
     "ways": see_ways,
+    "keys": see_keys,
     "report": see_report,
     "hostile": see_hostile,
     "fast": see_fast,
@@ -471,7 +518,7 @@ SCENES: dict[str, Callable[[Browser], None]] = {
                  f".forEach(it => {{ it.open = true; }}); {TO_TOLD}"),
 }
 
-TOLD = ("ways", "hostile", "fast", "large", "same")
+TOLD = ("ways", "keys", "hostile", "fast", "large", "same")
 
 
 def table(browser: Browser) -> dict[str, str]:
