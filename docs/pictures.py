@@ -28,7 +28,7 @@ EXAMPLES = ROOT / "examples"
 # The page that fails is an example whose last box was made wider. Its picture has its name.
 FAILING = "wide_total"
 NARROW, WIDE = b"c750a120b", b"c900a120b"
-SCREENSHOT = "report_of_jobs.png"
+SCREENSHOTS = {"report_of_jobs.png", "page_in_browser.png"}
 
 
 def output(program: str, *words: str) -> bytes:
@@ -70,9 +70,9 @@ def picture_of_failure(program: str) -> Dict[str, bytes]:
 def differences(due: Dict[str, bytes]) -> List[str]:
     """What differs between the files and the pictures that are due."""
     kept = {path.name: path.read_bytes() for path in PICTURES.iterdir()}
-    names = {f"{name}.svg" for name in due} | {SCREENSHOT}
+    names = {f"{name}.svg" for name in due} | SCREENSHOTS
     wrong = [f"{name} is not drawn" for name in sorted(set(kept) - names)]
-    wrong += [f"{SCREENSHOT} is not there"] * (SCREENSHOT not in kept)
+    wrong += [f"{name} is not there" for name in sorted(SCREENSHOTS - set(kept))]
     wrong += [
         f"{name}.svg is not what the program draws"
         for name, picture in due.items()
