@@ -1,5 +1,5 @@
 """Makes what PROOFS and BELIEVE print of the theorem: the contract of `check_job`, the definitions
-to which it unfolds, those where it stops, the spec files below it, the release of the toolchain,
+to which it unfolds, those where it stops, the spec files below it, the logic of the toolchain,
 and how many edits there are and what came of them.
 """
 
@@ -224,12 +224,12 @@ def types_to_believe(tree: Tree) -> str:
 
 
 def toolchain(tree: Tree) -> Optional[str]:
-    """The line of `rt version`, or None where there is no rt."""
+    """The logic by which the proofs hold, which releases share, or None where there is no rt."""
     if shutil.which("rt") is None:
         return None
     said = subprocess.run(["rt", "version"], capture_output=True, text=True, check=True).stdout
-    line = said.splitlines()[0].strip()
-    return f"`rt version`: {line}"
+    logic = re.search(r"logic (\w+)", said)[1]
+    return f"`rt version` names the logic {logic}."
 
 
 # ---- edits and their clauses

@@ -7,7 +7,7 @@ In the tree the crate is a library, as the gate proves it; what an earlier run o
 proved of the same files is taken from it. A copy of the tree then has the crate as what the
 toolchain builds for WebAssembly, for which it alone is proved once more. FOLDER gets module64.wasm,
 for memories of 64 bits, and, where binaryen's wasm-opt is there, module.wasm, the same for those of
-32 bits, which every browser has.
+32 bits, which every browser has. The gate builds it likewise, over what it has proved.
 """
 
 import re
@@ -64,19 +64,24 @@ def lower(module: Path, lowered: Path) -> int:
     return subprocess.run(words, check=False).returncode
 
 
+def build(place: Path, folder: Path) -> int:
+    """Builds the module from a copy of the tree in which the crate is proved and aims at pages."""
+    folder.mkdir(parents=True, exist_ok=True)
+    module = folder / "module64.wasm"
+    status = prover.build_library(place, CRATE) or link(place, module)
+    return status or lower(module, folder / "module.wasm")
+
+
 def main(arguments: list[str]) -> int:
     if len(arguments) != 1:
         print(__doc__, file=sys.stderr)
         return 2
-    folder = Path(arguments[0])
-    folder.mkdir(parents=True, exist_ok=True)
-    module = folder / "module64.wasm"
     with tree.copy(only=tree.with_all_below(CRATE)) as place:
         status = prove(place)
         if status == 0:
             aim_at_pages(place)
-            status = prover.build_library(place, CRATE) or link(place, module)
-    return status or lower(module, folder / "module.wasm")
+            status = build(place, Path(arguments[0]))
+    return status
 
 
 if __name__ == "__main__":

@@ -4,8 +4,7 @@
  *
  *     node web/try_module.mjs PROGRAM MODULE
  *
- * A module for memories of 64 bits needs a Node that has them. What differs is printed, and then the
- * status is 1.
+ * What differs is printed, and then the status is 1.
  */
 
 import { execFileSync, spawnSync } from "node:child_process";
@@ -13,6 +12,7 @@ import { mkdtempSync, readFileSync, readdirSync, rmSync } from "node:fs";
 import { tmpdir } from "node:os";
 import { dirname, join, resolve } from "node:path";
 import { fileURLToPath } from "node:url";
+import { setFlagsFromString } from "node:v8";
 
 import { Failure, open } from "./module.js";
 
@@ -21,6 +21,9 @@ const PROFILES = ["front_desk", "back_office", "export_desk", "dispatch"];
 const CODES = ["", "12", "Unset", "102", "&lP", "HT", "commands", "nothing"];
 /** A listed item is near a place where it begins so many bytes before or behind. */
 const [BEFORE, BEHIND] = [40, 16];
+
+// Memories of 64 bits, which Node 20 has behind this flag.
+setFlagsFromString("--experimental-wasm-memory64");
 
 const [program, file] = process.argv.slice(2).map((path) => resolve(path));
 const module = await open(readFileSync(file));
