@@ -18,8 +18,8 @@ use crate::lexer::ahead::{
 use crate::lexer::first::{Context, First, Numbers};
 use crate::lexer::lexed::Lexed;
 use crate::pcl::command_with_data::row_in;
-use crate::pcl::parameterized::parameterized_in;
-use pcl_items::{Data, Item, LexFault, LineEnd, Place, SimpleItem};
+use crate::pcl::parameterized::{parameterized_in, short_in};
+use pcl_items::{Data, Group, Item, LexFault, LineEnd, Place, SimpleItem};
 use std::alloc::{AllocError, Allocator, Global};
 use std::marker::Model;
 
@@ -181,6 +181,37 @@ impl<A: Allocator> Lexer<A> {
             place,
             item: SimpleItem::Parameterized(read.command, read.number),
         })
+    }
+
+    /// The command of rectangles (`*c`) that stands next with a short number, as most have, where
+    /// it is known that one does: the item that `next` would give.
+    ///
+    /// It tells nothing of what else may stand next. What executes it needs no table, since there
+    /// are few of the group.
+    #[inline(always)]
+    pub fn next_rectangle(&mut self) -> Option<PlacedItem>
+        ensures command { IfSome result (λ read. IsNext self.old (answer_of read) self.new) }
+        ensures none { IfNone result (self.new ≡ self.old) }
+    {
+        self.next_short(Group::Rectangle)
+    }
+
+    /// So it is with a move in PCL units (`*p`).
+    #[inline(always)]
+    pub fn next_move(&mut self) -> Option<PlacedItem>
+        ensures command { IfSome result (λ read. IsNext self.old (answer_of read) self.new) }
+        ensures none { IfNone result (self.new ≡ self.old) }
+    {
+        self.next_short(Group::UnitPosition)
+    }
+
+    /// So it is with a move by columns, rows or decipoints, or a margin (`&a`).
+    #[inline(always)]
+    pub fn next_position(&mut self) -> Option<PlacedItem>
+        ensures command { IfSome result (λ read. IsNext self.old (answer_of read) self.new) }
+        ensures none { IfNone result (self.new ≡ self.old) }
+    {
+        self.next_short(Group::Position)
     }
 
     /// The carriage return or line feed that stands next, where it is known that one does: the item
@@ -351,6 +382,26 @@ impl<A: Allocator> Lexer<A> {
         ensures { ReadsLines self.old (take count (ahead_of self.old)) self.new }
     {
         self.at += count;
+    }
+
+    /// The parameterized command of this group that stands next with a short number, where it is
+    /// known that one does.
+    #[inline(always)]
+    #[tactic(auto, using(crate::proofs::Lexing::Steps::is_next))]
+    fn next_short(&mut self, group: Group) -> Option<PlacedItem>
+        ensures command { IfSome result (λ read. IsNext self.old (answer_of read) self.new) }
+        ensures none { IfNone result (self.new ≡ self.old) }
+    {
+        let Some(read) = short_in(group, self.context, self.unread()) else {
+            return None;
+        };
+        let place = self.place();
+        self.at += read.len;
+        self.context = read.next;
+        Some(PlacedItem {
+            place,
+            item: SimpleItem::Parameterized(read.command, read.number),
+        })
     }
 
     /// The bytes that were fed and are not read.
