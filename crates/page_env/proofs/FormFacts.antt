@@ -1,8 +1,10 @@
 -- Moves and rectangles go as the table has them, by what is looked up of the page.
-use Rattle.std.proofs.Common.{◌≡◌, ℕ, ℤ, pos, ◌*◌, Bool, true, false, not, ◌&&◌, cond, Option, Some, None, List, [], ◌∷◌, length}
+use Rattle.std.proofs.Common.{◌≡◌, ℕ, ℤ, pos, ◌+◌, ◌*◌, Bool, true, false, not, ◌&&◌, cond, Option, Some, None, List, [], ◌∷◌, length}
 use Rattle.std.proofs.Common.{unwrap_or, refl, sym, ap, subst, ◌∙◌, arith}
-use Rattle.std.specs.Prelude.{◌+ℤ◌, ◌≤ℤ◌, int_lt, is_none}
-use Rattle.std.proofs.lemmas.Bool.{and_from}
+use Rattle.std.specs.Prelude.{◌+ℤ◌, ◌≤ℤ◌, ◌==◌, ◌%◌, ◌/◌, int_lt, is_none}
+use Rattle.std.proofs.Math.Nat.{mul_assoc}
+use Rattle.std.proofs.lemmas.Bool.{and_from, eqb-true}
+use Rattle.std.proofs.lemmas.Nat.{div-add-mod', div-mul-add, mod-mul-add}
 use Rattle.std.proofs.lemmas.Int.{ints}
 use Rattle.std.specs.Option.{option_map_or}
 use Rattle.tick_length.specs.declared.unit.Unit.TheVariants.{FortyEighthInch, HundredTwentiethInch}
@@ -183,6 +185,21 @@ module _ (printer : Printer) (page : Page) (n : Amount) (size : ℤ) (positive :
         ∙ ap sized (sym size_is);
     rest = refl;
   }
+
+-- ---- columns and rows
+
+-- a length times a whole value
+pub whole_times : (length t : ℕ) → (t % 10_000 == 0) ≡ true → times length t ≡ Some (length * (t / 10_000))
+unfolding times
+whole_times length t whole =
+    let q : ℕ = t / 10_000 in
+    let none : t % 10_000 ≡ 0 = eqb-true (t % 10_000) 0 whole in
+    let is : q * 10_000 ≡ t = omega (arith, none, div-add-mod' t 10_000) in
+    let apart : length * q * 10_000 + 0 ≡ length * (q * 10_000) = omega (arith, mul_assoc length q 10_000) in
+    let product : length * q * 10_000 + 0 ≡ length * t = apart ∙ ap (λ m. length * m) is in
+    let rest : length * t % 10_000 ≡ 0 = ap (λ m. m % 10_000) (sym product) ∙ mod-mul-add (length * q) 10_000 0 (omega arith) in
+    let part : length * t / 10_000 ≡ length * q = ap (λ m. m / 10_000) (sym product) ∙ div-mul-add (length * q) 10_000 0 (omega arith) in
+    ap (λ r. cond (r == 0) (Some (length * t / 10_000)) None) rest ∙ ap (λ m. Some m) part
 
 -- ---- moves, and rectangles that are filled
 
