@@ -1,13 +1,14 @@
-//! Moves of the cursor and rectangles, one behind another, so that what they take from the page is
-//! looked up once.
+//! Moves of the cursor, its stack, and rectangles, one behind another, so that what they take from
+//! the page is looked up once.
 #![tactic(auto)]
 
 ghost use Rattle.std.specs.Prelude.{◌≡◌, ◌≤◌, ◌^◌, ◌+◌, ◌*◌, ◌/◌, ◌+ℤ◌, ◌≤ℤ◌, pos};
-ghost use Rattle.std.specs.Prelude.{IfNone, IfSome, IsTrue, Some, true};
+ghost use Rattle.std.specs.Prelude.{IfNone, IfSome, IsTrue, Some, ◌==◌, false, true};
 ghost use Rattle.tick_length.specs.declared.unit.Unit.TheVariants.{PclUnit};
 ghost use Rattle.tick_length.specs.Unit.{ticks_of};
 ghost use Rattle.pcl_items.specs.declared.pcl.command.Command.TheVariants.{
   Column,
+  CursorStack,
   FillRectangle,
   HorizontalDecipoints,
   HorizontalUnits,
@@ -20,14 +21,14 @@ ghost use Rattle.pcl_items.specs.declared.pcl.command.Command.TheVariants.{
 ghost use Rattle.pcl_items.specs.Escapes.Value.{is_whole};
 ghost use Rattle.pcl_items.specs.Items.{amount};
 ghost use Rattle.page_env.specs.Forms.{FormsBy, HasBounds};
-ghost use Rattle.page_env.specs.Numbers.{IsWithin};
+ghost use Rattle.page_env.specs.Numbers.{IsWithin, is_whole_between, whole_of};
 ghost use Rattle.page_env.specs.Places.{place_between, target_of, times};
 
 use crate::cell::Cell;
-use crate::cursor::Coordinate;
+use crate::cursor::{Coordinate, Cursor};
 use crate::lookup::FormBounds;
 use crate::mark::Bounds;
-use crate::number::is_negative;
+use crate::number::{is_negative, is_whole_between, whole_of};
 use crate::page::Page;
 use crate::places::{
     SheetPlace, first_line, known_geometry, length_between, on_sheet, origin_on, ticks_in,
@@ -275,6 +276,56 @@ fn move_rows_on(bounds: &FormBounds, page: &mut Page, n: Number) -> Option<u64>
     Some(0)
 }
 
+/// `&f0S`, where it goes and the cursor is not at home.
+#[inline(always)]
+fn push_on(bounds: &FormBounds, page: &mut Page, n: Number) -> Option<u64>
+    requires whole { is_whole_between 0 1 (amount n) ≡ true }
+    requires push { whole_of (amount n) ≡ 0 }
+    ensures goes { FormsBy bounds.now CursorStack (amount n) page.old page.new result }
+    ensures same { IfNone result (page.new ≡ page.old) }
+{
+    let here = page.cursor.y?;
+    if page.stack.is_full() {
+        return None;
+    }
+    page.stack.push(Cursor {
+        x: page.cursor.x,
+        y: Some(here),
+    });
+    Some(0)
+}
+
+/// `&f1S`, where it goes.
+#[inline(always)]
+fn pop_on(bounds: &FormBounds, page: &mut Page, n: Number) -> Option<u64>
+    requires whole { is_whole_between 0 1 (amount n) ≡ true }
+    requires pop { (whole_of (amount n) == 0) ≡ false }
+    ensures goes { FormsBy bounds.now CursorStack (amount n) page.old page.new result }
+    ensures same { IfNone result (page.new ≡ page.old) }
+{
+    let Some(cursor) = page.stack.pop() else {
+        return None;
+    };
+    page.cursor = cursor;
+    Some(0)
+}
+
+/// `&f#S`, where it goes, and the cursor is not at home where it is pushed.
+#[inline(always)]
+fn use_stack_on(bounds: &FormBounds, page: &mut Page, n: Number) -> Option<u64>
+    ensures goes { FormsBy bounds.now CursorStack (amount n) page.old page.new result }
+    ensures same { IfNone result (page.new ≡ page.old) }
+{
+    if !is_whole_between(0, 1, n) {
+        return None;
+    }
+    if whole_of(n) == 0 {
+        push_on(bounds, page, n)
+    } else {
+        pop_on(bounds, page, n)
+    }
+}
+
 /// `*c#A`, where it goes.
 #[inline(always)]
 fn set_width_on(bounds: &FormBounds, page: &mut Page, n: Number) -> Option<u64>
@@ -380,14 +431,15 @@ pub fn is_of_forms(command: Command) -> bool {
             | Command::VerticalDecipoints
             | Command::Column
             | Command::Row
+            | Command::CursorStack
             | Command::RectangleWidth
             | Command::RectangleHeight
             | Command::FillRectangle
     )
 }
 
-/// Carries out a command that moves the cursor or makes a rectangle, by what it takes from the
-/// page, where it is known that it goes, and tells how many marks it made.
+/// Carries out a command that moves the cursor, uses its stack or makes a rectangle, by what it
+/// takes from the page, where it is known that it goes, and tells how many marks it made.
 #[inline(always)]
 pub fn form_on(bounds: &FormBounds, page: &mut Page, command: Command, n: Number) -> Option<u64>
     ensures goes { FormsBy bounds.now command (amount n) page.old page.new result }
@@ -400,6 +452,7 @@ pub fn form_on(bounds: &FormBounds, page: &mut Page, command: Command, n: Number
         Command::VerticalDecipoints => move_y_decipoints_on(bounds, page, n),
         Command::Column => move_columns_on(bounds, page, n),
         Command::Row => move_rows_on(bounds, page, n),
+        Command::CursorStack => use_stack_on(bounds, page, n),
         Command::RectangleWidth => set_width_on(bounds, page, n),
         Command::RectangleHeight => set_height_on(bounds, page, n),
         Command::FillRectangle => fill_on(bounds, page, n),
