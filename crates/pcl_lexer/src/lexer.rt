@@ -1,7 +1,7 @@
 //! The lexer.
 
-ghost use Rattle.std.specs.Prelude.{◌≡◌, ◌==◌, ◌≤◌, ◌-◌, ◌+◌, ◌^◌, ◌++◌, ℕ, List, [], length};
-ghost use Rattle.std.specs.Prelude.{get_or, take, drop, false, true, vec_len, vec_capacity, IfNone};
+ghost use Rattle.std.specs.Prelude.{◌≡◌, ◌≤◌, ◌-◌, ◌+◌, ◌^◌, ◌++◌, ℕ, List, [], length};
+ghost use Rattle.std.specs.Prelude.{take, drop, false, true, vec_len, vec_capacity, IfNone};
 ghost use Rattle.std.specs.Prelude.{IfOk, IfSome, OnOk, OnErr};
 ghost use Rattle.std.specs.Borrow.{sem};
 
@@ -261,14 +261,6 @@ impl<A: Allocator> Lexer<A> {
         })
     }
 
-    /// Whether a comma stands next, as between the pairs of coordinates of one command.
-    #[inline(always)]
-    pub fn is_before_comma(&self) -> bool
-        ensures { result ≡ (get_or self.now.rest 0 0 == 44) }
-    {
-        matches!(self.unread(), [b',', ..])
-    }
-
     /// The command of a frame that moves the pen and has no coordinates, that stands next, where it
     /// is known that one does: the item that `next` would give.
     ///
@@ -288,6 +280,21 @@ impl<A: Allocator> Lexer<A> {
             place: read.place,
             item: SimpleItem::Move(read.motion, None),
         })
+    }
+
+    /// The command of a frame that moves the pen, or the further pair of one, that stands next,
+    /// where it is known that one does: the item that `next` would give.
+    ///
+    /// It tells nothing of what else may stand next.
+    #[inline(always)]
+    pub fn next_pen_move(&mut self) -> Option<PlacedItem>
+        ensures moves { IfSome result (λ read. IsNext self.old (answer_of read) self.new) }
+        ensures none { IfNone result (self.new ≡ self.old) }
+    {
+        if let Some(read) = self.next_pair() {
+            return Some(read);
+        }
+        self.next_motion()
     }
 
     /// The row of a raster that stands next, where it is known that one does with all of its data:
