@@ -1,8 +1,10 @@
 -- Moves and rectangles go as the table has them, by what is looked up of the page.
-use Rattle.std.proofs.Common.{◌≡◌, ℕ, ℤ, pos, ◌*◌, Bool, true, false, not, ◌&&◌, cond, Option, Some, None, List, [], ◌∷◌, length}
+use Rattle.std.proofs.Common.{◌≡◌, ℕ, ℤ, pos, ◌+◌, ◌*◌, Bool, true, false, not, ◌&&◌, cond, Option, Some, None, List, [], ◌∷◌, length}
 use Rattle.std.proofs.Common.{unwrap_or, refl, sym, ap, subst, ◌∙◌, arith}
-use Rattle.std.specs.Prelude.{◌+ℤ◌, ◌≤ℤ◌, int_lt, is_none}
-use Rattle.std.proofs.lemmas.Bool.{and_from}
+use Rattle.std.specs.Prelude.{◌+ℤ◌, ◌≤ℤ◌, ◌==◌, ◌%◌, ◌/◌, int_lt, is_none, nat_lt}
+use Rattle.std.proofs.Math.Nat.{mul_assoc}
+use Rattle.std.proofs.lemmas.Bool.{and_from, eqb-true, ne_eqb}
+use Rattle.std.proofs.lemmas.Nat.{div-add-mod', div-mul-add, mod-mul-add}
 use Rattle.std.proofs.lemmas.Int.{ints}
 use Rattle.std.specs.Option.{option_map_or}
 use Rattle.tick_length.specs.declared.unit.Unit.TheVariants.{FortyEighthInch, HundredTwentiethInch}
@@ -16,22 +18,23 @@ use Rattle.device_profile.specs.declared.panel.Panel.{Panel}
 use Rattle.device_profile.specs.Printer.{Printer}
 use Rattle.page_env.specs.declared.cell.Cell.{Cell}
 use Rattle.page_env.specs.declared.cell.Cell.TheVariants.{Known}
+use Rattle.page_env.specs.declared.cursor.Cursor.{Cursor}
 use Rattle.page_env.specs.declared.finding.Finding.TheVariants.{BadValue, EmptyRectangle, Inexact, NoFont, NotPrintable}
-use Rattle.page_env.specs.declared.finding.Finding.TheVariants.{OffPage}
+use Rattle.page_env.specs.declared.finding.Finding.TheVariants.{OffPage, StackEmpty, StackFull}
 use Rattle.page_env.specs.declared.lookup.FormBounds.{FormBounds}
 use Rattle.page_env.specs.declared.mark.Bounds.{Bounds}
 use Rattle.page_env.specs.declared.mark.Fill.{Fill}
 use Rattle.page_env.specs.declared.page.JobSettings.{JobSettings}
 use Rattle.page_env.specs.declared.page.Page.{Page}
 use Rattle.page_env.specs.declared.places.Origin.{Origin}
-use Rattle.page_env.specs.CursorPositioning.{move_across, move_from_top}
+use Rattle.page_env.specs.CursorPositioning.{move_across, move_from_top, pop_cursor, popped, push_cursor, stack_room}
 use Rattle.page_env.specs.Effect.{Effect, Goes, Step, TableLine, check, effect_of, fails_or, first_unset, is_unset, unset_or}
 use Rattle.page_env.specs.FontInForce.{face_of, font_reads}
 use Rattle.page_env.specs.Forms.{Across, AcrossDecipoints, Bound, Columns, Down, DownDecipoints, Filled, FormGoes, HasBounds}
-use Rattle.page_env.specs.Forms.{Height, KnowsPage, LeavesRest, Rows, Width}
+use Rattle.page_env.specs.Forms.{Height, KnowsPage, LeavesRest, Rows, Stacked, Width}
 use Rattle.page_env.specs.Mark.{Rectangle, Shape, is_inside}
 use Rattle.page_env.specs.Motion.{line_termination_reads}
-use Rattle.page_env.specs.Numbers.{is_absent, is_negative}
+use Rattle.page_env.specs.Numbers.{is_absent, is_negative, is_whole_between, whole_of}
 use Rattle.page_env.specs.Places.{column_from, decipoint_ticks, first_line, geometry_of, home_of, is_between, origin_on}
 use Rattle.page_env.specs.Places.{page_and_line_reads, page_reads, place_between, target_of, ticks_in, times, unit_ticks}
 use Rattle.page_env.specs.Places.{vertical_reads}
@@ -183,6 +186,71 @@ module _ (printer : Printer) (page : Page) (n : Amount) (size : ℤ) (positive :
         ∙ ap sized (sym size_is);
     rest = refl;
   }
+
+-- ---- the cursor stack
+
+module _ (printer : Printer) (page : Page) (n : Amount) (value : is_whole_between 0 1 n ≡ true) where
+  -- a push, where the cursor is not at home and there is room
+  pub push_goes : (here : ℤ) → page.cursor.y ≡ Some here → nat_lt (length page.stack) stack_room ≡ true → (whole_of n == 0) ≡ true →
+      FormGoes printer commands.CursorStack n 0 page (record page { stack = record page.cursor { y = Some here } ∷ page.stack })
+  push_goes here stands room push = record {
+    form = Stacked;
+    is = refl;
+    shapes = [];
+    count = refl;
+    goes = λ panel defaults.
+        let s : State = state_at panel page in
+        let at : ℤ → Cursor = λ y. record s.cursor { y = Some y } in
+        let pushed : Option ℤ → Effect =
+        λ o.
+        unset_or (first_unset s.settings (vertical_reads o))
+        (Goes (record s { cursor = at (unwrap_or o (home_of s)); stack = at (unwrap_or o (home_of s)) ∷ s.stack }) []) in
+        ap (λ b. effect_of s.settings (Step (cond b (push_cursor s n) (pop_cursor s n)))) push
+        ∙ ap
+        (λ b. fails_or
+        (cond (not b) (Some BadValue) (cond (not (nat_lt (length s.stack) stack_room)) (Some StackFull) None)) (pushed s.cursor.y))
+        value
+        ∙ ap (λ b. fails_or (cond (not b) (Some StackFull) None) (pushed s.cursor.y)) room
+        ∙ ap pushed stands
+        ∙ ap (λ o. Goes (record s { cursor = record s.cursor { y = o }; stack = at here ∷ s.stack }) []) (sym stands);
+    rest = refl;
+  }
+
+  -- a pop, where a cursor was pushed
+  pub pop_goes : (cursor : Cursor) (stack : List Cursor) → page.stack ≡ cursor ∷ stack → (whole_of n == 0) ≡ false →
+      FormGoes printer commands.CursorStack n 0 page (record page { cursor = cursor; stack = stack })
+  pop_goes cursor stack is pop = record {
+    form = Stacked;
+    is = refl;
+    shapes = [];
+    count = refl;
+    goes = λ panel defaults.
+        let s : State = state_at panel page in
+        let some : (length (cursor ∷ stack) == 0) ≡ false = ne_eqb (length (cursor ∷ stack)) 0 (λ e. absurd (omega (arith, e))) in
+        let left : List Cursor → Effect = λ l. Goes (popped s l) [] in
+        ap (λ b. effect_of s.settings (Step (cond b (push_cursor s n) (pop_cursor s n)))) pop
+        ∙ ap
+        (λ b. fails_or (cond (not b) (Some BadValue) (cond (length s.stack == 0) (Some StackEmpty) None)) (left s.stack))
+        value
+        ∙ ap (λ (l : List Cursor). fails_or (cond (length l == 0) (Some StackEmpty) None) (left l)) is
+        ∙ ap (λ b. fails_or (cond b (Some StackEmpty) None) (left (cursor ∷ stack))) some;
+    rest = refl;
+  }
+
+-- ---- columns and rows
+
+-- a length times a whole value
+pub whole_times : (length t : ℕ) → (t % 10_000 == 0) ≡ true → times length t ≡ Some (length * (t / 10_000))
+unfolding times
+whole_times length t whole =
+    let q : ℕ = t / 10_000 in
+    let none : t % 10_000 ≡ 0 = eqb-true (t % 10_000) 0 whole in
+    let is : q * 10_000 ≡ t = omega (arith, none, div-add-mod' t 10_000) in
+    let apart : length * q * 10_000 + 0 ≡ length * (q * 10_000) = omega (arith, mul_assoc length q 10_000) in
+    let product : length * q * 10_000 + 0 ≡ length * t = apart ∙ ap (λ m. length * m) is in
+    let rest : length * t % 10_000 ≡ 0 = ap (λ m. m % 10_000) (sym product) ∙ mod-mul-add (length * q) 10_000 0 (omega arith) in
+    let part : length * t / 10_000 ≡ length * q = ap (λ m. m / 10_000) (sym product) ∙ div-mul-add (length * q) 10_000 0 (omega arith) in
+    ap (λ r. cond (r == 0) (Some (length * t / 10_000)) None) rest ∙ ap (λ m. Some m) part
 
 -- ---- moves, and rectangles that are filled
 

@@ -1,10 +1,10 @@
 -- Where the diagonal of a box goes, each line in the box does.
-use Rattle.std.proofs.Common.{◌≡◌, ◌==◌, ℕ, ℤ, pos, ◌/◌, ◌≤◌, Bool, true, false, not, ◌&&◌, ◌||◌, cond, Some, None, [], ◌∷◌, refl, ap, sym}
-use Rattle.std.proofs.Common.{◌∙◌, arith}
+use Rattle.std.proofs.Common.{◌≡◌, ◌==◌, ℕ, ℤ, pos, ◌/◌, ◌≤◌, Bool, true, false, not, ◌&&◌, ◌||◌, cond, Some, None, List, [], ◌∷◌, ◌++◌}
+use Rattle.std.proofs.Common.{length, refl, ap, sym, ◌∙◌, arith}
 use Rattle.std.specs.Prelude.{◌+ℤ◌, ◌-ℤ◌, ◌≤ℤ◌, int_lt, nat_lt, unsigned_abs}
 use Rattle.std.specs.Int.{int_min, int_max}
 use Rattle.std.proofs.lemmas.Int.{ints}
-use Rattle.std.proofs.lemmas.Bool.{and_from, and_parts, le-ltb, ltb-false}
+use Rattle.std.proofs.lemmas.Bool.{and_from, and_parts, le-ltb, ltb-false, ne_eqb}
 use Rattle.tick_length.specs.declared.unit.Unit.TheVariants.{Millimetre}
 use Rattle.device_profile.specs.declared.geometry.Geometry.{Geometry}
 use Rattle.device_profile.specs.declared.panel.Panel.{Panel}
@@ -12,16 +12,15 @@ use Rattle.device_profile.specs.Printer.{Printer}
 use Rattle.page_env.specs.declared.finding.Finding.TheVariants.{NoPen, NotPrintable, OutsideFrame}
 use Rattle.page_env.specs.declared.frames.Frame.{Frame}
 use Rattle.page_env.specs.declared.page.Page.{Page}
-use Rattle.page_env.specs.declared.page.Pen.{Pen}
 use Rattle.page_env.specs.declared.page.PenPlace.{PenPlace}
 use Rattle.page_env.specs.declared.places.Origin.{Origin}
 use Rattle.page_env.specs.declared.plot.PenBounds.{PenBounds}
-use Rattle.page_env.specs.Effect.{Effect, Goes, Step, check, effect_of, fails_or, first_finding, first_unset, unset_or}
+use Rattle.page_env.specs.Effect.{Effect, Goes, check, fails_or, first_finding, first_unset, unset_or}
 use Rattle.page_env.specs.Frames.{frame_of, frame_on, is_in_frame, x_on_page, y_on_page}
-use Rattle.page_env.specs.Mark.{Line, is_inside, line_bounds}
-use Rattle.page_env.specs.Pens.{carry_pen, draw, furthest, is_too_far, line_between, line_checks, stays_in_frame}
+use Rattle.page_env.specs.Mark.{Line, Shape, is_inside, line_bounds}
+use Rattle.page_env.specs.Pens.{furthest, is_too_far, line_between, line_checks, stays_in_frame}
 use Rattle.page_env.specs.Places.{geometry_of, is_between, origin_of, page_reads, ticks_in}
-use Rattle.page_env.specs.Plot.{DrawsLine, LinesGo, lies_within, page_at}
+use Rattle.page_env.specs.Plot.{DrawsLine, LinesGo, lies_within, marked_by, marks_both, page_with, pen_at}
 use Rattle.page_env.specs.Settings.{State, settings_at, state_at}
 use Rattle.page_env.proofs.TextRuns.{between_low, between_high, is_between-of}
 
@@ -177,10 +176,26 @@ module _ (g : Geometry) (origin : Origin) (frame : Frame) (width : ℕ) (box : P
       (inside_too inside)
       ∙ ap (λ (b : Bool). cond (not b) (Some OutsideFrame) None) (stays_too stays)
 
+-- where the checks of a line pass its end is not too far
+not_too_far : (b : Bool) → not b ≡ true → b ≡ false
+not_too_far true e = absurd cc
+not_too_far false e = refl
+
+pub near_end : (g : Geometry) (origin : Origin) (frame : Frame) (width : ℕ) (from to : PenPlace) →
+    first_finding (line_checks g origin frame width from to) ≡ None → is_too_far to ≡ false
+near_end g origin frame width from to passes =
+    let stays = by (is_inside g (line_bounds (line_between origin frame width from to))) (stays_in_frame frame from to) passes in
+    not_too_far (is_too_far to) (and_parts (is_in_frame frame from && is_in_frame frame to) (not (is_too_far to)) stays).1
+  where
+    by : (a b : Bool) → cond (not a) (Some NotPrintable) (cond (not b) (Some OutsideFrame) None) ≡ None → b ≡ true
+    by true true e = refl
+    by true false e = absurd cc
+    by false b e = absurd cc
+
 -- ---- what the pen draws
 
 module _ (printer : Printer) (page : Page) (box : PenBounds) (g : Geometry) (origin : Origin) (frame : Frame)
-    (down : page.env.job.pen.is_down ≡ true) (selected : (page.env.job.pen.number == 0) ≡ false)
+    (selected : (page.env.job.pen.number == 0) ≡ false)
     (known : (panel : Panel) →
     (first_unset (settings_at panel page.env) page_reads ≡ None) × (geometry_of printer (state_at panel page) ≡ g)
     × (origin_of printer (state_at panel page) ≡ origin))
@@ -188,21 +203,14 @@ module _ (printer : Printer) (page : Page) (box : PenBounds) (g : Geometry) (ori
   pub draws_within : (from target : PenPlace) → lies_within box from ≡ true → lies_within box target ≡ true →
       DrawsLine printer page from target (line_between origin frame page.env.job.pen.width from target)
   unfolding page_reads
-  draws_within from target in_from in_target panel marked to leads =
-      let pen : Pen = page.env.job.pen in
-      let s = state_at panel (page_at from marked page) in
-      let drawn : Bool → State =
-      λ (is_down : Bool). state_at panel (page_at target true (record page {
-        env = record page.env { job = record page.env.job { pen = record pen { is_down = is_down } } };
-      })) in
+  draws_within from target in_from in_target panel is_down is_relative marked =
+      let width : ℕ = page.env.job.pen.width in
+      let s = state_at panel (page_with (pen_at is_down is_relative from page) marked page) in
+      let drawn : State = state_at panel (page_with (pen_at true is_relative target page) true page) in
       let judges : Geometry → Origin → Frame → Effect =
-      λ g' origin' frame'. fails_or (first_finding (line_checks g' origin' frame' pen.width from target))
-      (Goes (drawn true) (Line (line_between origin' frame' pen.width from target) ∷ [])) in
-      let effect : Bool → PenPlace → Effect =
-      λ is_down place. effect_of s.settings (Step (cond is_down (draw printer s place) (carry_pen s place))) in
-      ap (λ place. effect pen.is_down place) leads
-      ∙ ap (λ is_down. effect is_down target) down
-      ∙ ap
+      λ g' origin' frame'. fails_or (first_finding (line_checks g' origin' frame' width from target))
+      (Goes drawn (Line (line_between origin' frame' width from target) ∷ [])) in
+      ap
       (λ none. fails_or (first_finding (check none NoPen ∷ []))
       (unset_or (first_unset s.settings page_reads) (judges (geometry_of printer s) (origin_of printer s) (frame_of printer s))))
       selected
@@ -210,6 +218,21 @@ module _ (printer : Printer) (page : Page) (box : PenBounds) (g : Geometry) (ori
       ∙ ap (λ origin'. judges (geometry_of printer s) origin' (frame_of printer s)) (known panel).2
       ∙ ap (λ g'. judges g' origin (frame_on g' page.env.job.frame)) (known panel).1
       ∙ ap (λ frame'. judges g origin frame') (sym is_frame)
-      ∙ ap (λ finding. fails_or finding (Goes (drawn true) (Line (line_between origin frame pen.width from target) ∷ [])))
+      ∙ ap (λ finding. fails_or finding (Goes drawn (Line (line_between origin frame width from target) ∷ [])))
       (go from target in_from in_target)
-      ∙ ap (λ is_down. Goes (drawn is_down) (Line (line_between origin frame pen.width from target) ∷ [])) (sym down)
+
+-- a page that is marked stays so
+stays_marked : (shapes : List Shape) → marked_by shapes true ≡ true
+stays_marked [] = refl
+stays_marked (shape ∷ shapes) = refl
+
+-- a page is marked where it was, or a mark was made
+pub marks_are : (dots lines : List Shape) (marked : Bool) (marks : ℕ) → length (dots ++ lines) ≡ marks →
+    (not (marks == 0) || marked) ≡ marks_both dots lines marked
+marks_are [] [] marked marks count = ap (λ n. not (n == 0) || marked) (sym count)
+marks_are [] (line ∷ lines) marked marks count =
+    let some : length (line ∷ lines) ≡ marks = count in
+    ap (λ b. not b || marked) (ne_eqb marks 0 (λ none. absurd (omega (arith, some, none))))
+marks_are (dot ∷ dots) lines marked marks count =
+    let some : length (dot ∷ (dots ++ lines)) ≡ marks = count in
+    ap (λ b. not b || marked) (ne_eqb marks 0 (λ none. absurd (omega (arith, some, none)))) ∙ sym (stays_marked lines)

@@ -1,4 +1,4 @@
--- Moves of the cursor and rectangles, one behind another, by what is looked up once of the page.
+-- Moves of the cursor, its stack, and rectangles, one behind another, by what is looked up once of the page.
 use Rattle.std.specs.Prelude.{◌≡◌, ℕ, ◌/◌, Option, None, IfSome, List, length}
 use Rattle.tick_length.specs.declared.unit.Unit.TheVariants.{PclUnit}
 use Rattle.tick_length.specs.Unit.{ticks_of}
@@ -39,8 +39,8 @@ pub record HasBounds (printer : Printer) (page : Page) (bounds : FormBounds) : T
   pub has : KnowsPage printer page geometry
   pub bound : Bound bounds geometry page.env.job
 
--- a move to the left or right, or up or down, in PCL units, in decipoints, and in columns or rows; a width, a height,
--- and a rectangle that is filled
+-- a move to the left or right, or up or down, in PCL units, in decipoints, and in columns or rows; a use of the cursor
+-- stack; a width, a height, and a rectangle that is filled
 pub data Form : Type 0 where
   Across : Form
   Down : Form
@@ -48,6 +48,7 @@ pub data Form : Type 0 where
   DownDecipoints : Form
   Columns : Form
   Rows : Form
+  Stacked : Form
   Width : Form
   Height : Form
   Filled : Form
@@ -60,6 +61,7 @@ command_of AcrossDecipoints = commands.HorizontalDecipoints
 command_of DownDecipoints = commands.VerticalDecipoints
 command_of Columns = commands.Column
 command_of Rows = commands.Row
+command_of Stacked = commands.CursorStack
 command_of Width = commands.RectangleWidth
 command_of Height = commands.RectangleHeight
 command_of Filled = commands.FillRectangle
@@ -76,6 +78,7 @@ LeavesRest old new =
         };
       };
       cursor = new.cursor;
+      stack = new.stack;
       marked = new.marked;
     }
 

@@ -1,13 +1,14 @@
-//! Moves of the cursor and rectangles, one behind another, so that what they take from the page is
-//! looked up once.
+//! Moves of the cursor, its stack, and rectangles, one behind another, so that what they take from
+//! the page is looked up once.
 #![tactic(auto)]
 
 ghost use Rattle.std.specs.Prelude.{◌≡◌, ◌≤◌, ◌^◌, ◌+◌, ◌*◌, ◌/◌, ◌+ℤ◌, ◌≤ℤ◌, pos};
-ghost use Rattle.std.specs.Prelude.{IfNone, IfSome, IsTrue};
+ghost use Rattle.std.specs.Prelude.{IfNone, IfSome, IsTrue, Some, ◌==◌, false, true};
 ghost use Rattle.tick_length.specs.declared.unit.Unit.TheVariants.{PclUnit};
 ghost use Rattle.tick_length.specs.Unit.{ticks_of};
 ghost use Rattle.pcl_items.specs.declared.pcl.command.Command.TheVariants.{
   Column,
+  CursorStack,
   FillRectangle,
   HorizontalDecipoints,
   HorizontalUnits,
@@ -17,20 +18,20 @@ ghost use Rattle.pcl_items.specs.declared.pcl.command.Command.TheVariants.{
   VerticalDecipoints,
   VerticalUnits,
 };
+ghost use Rattle.pcl_items.specs.Escapes.Value.{is_whole};
 ghost use Rattle.pcl_items.specs.Items.{amount};
 ghost use Rattle.page_env.specs.Forms.{FormsBy, HasBounds};
-ghost use Rattle.page_env.specs.Numbers.{IsWithin};
-ghost use Rattle.page_env.specs.Places.{place_between, target_of};
+ghost use Rattle.page_env.specs.Numbers.{IsWithin, is_whole_between, whole_of};
+ghost use Rattle.page_env.specs.Places.{place_between, target_of, times};
 
 use crate::cell::Cell;
-use crate::cursor::Coordinate;
+use crate::cursor::{Coordinate, Cursor};
 use crate::lookup::FormBounds;
 use crate::mark::Bounds;
-use crate::number::is_negative;
+use crate::number::{is_negative, is_whole_between, whole_of};
 use crate::page::Page;
 use crate::places::{
-    SheetPlace, first_line, known_geometry, length_between, on_sheet, origin_on, target,
-    target_down, ticks_in, times,
+    SheetPlace, first_line, known_geometry, length_between, on_sheet, origin_on, ticks_in,
 };
 use crate::rectangles::{fill_of, is_empty};
 use crate::text_lines::area_of;
@@ -81,7 +82,13 @@ fn units_on(bounds: &FormBounds, n: Number) -> u64
 /// Where a move by so many ticks leads, if that is on the logical page.
 // As `target` finds it, but in 64 bits.
 #[inline(always)]
-fn target_by(sign: Sign, zero: Length, here: Coordinate, by: u64, limit: Length) -> Option<Length>
+fn target_by(
+    sign: Sign,
+    zero: Coordinate,
+    here: Coordinate,
+    by: u64,
+    limit: Length,
+) -> Option<Length>
     requires { by ≤ 2 ^ 60 }
     ensures { result ≡ place_between (pos 0) limit (target_of sign zero here (pos by)) }
 {
@@ -101,7 +108,7 @@ fn across(bounds: &FormBounds, page: &Page, sign: Sign, by: u64) -> Option<Lengt
         (target_of sign (pos 0) page.now.cursor.x (pos by)) }
 {
     let here = Coordinate::from_ticks(page.cursor.x.ticks());
-    target_by(sign, Length::ZERO, here, by, bounds.width)
+    target_by(sign, Coordinate::from_ticks(0), here, by, bounds.width)
 }
 
 /// Where a move up or down leads, if that is on the logical page.
@@ -111,7 +118,23 @@ fn down(bounds: &FormBounds, here: Coordinate, sign: Sign, by: u64) -> Option<Co
     ensures { result ≡ place_between (pos 0) bounds.now.height
         (target_of sign bounds.now.top here (pos by)) }
 {
-    let y = target_by(sign, bounds.top, here, by, bounds.height)?;
+    let top = Coordinate::from_ticks(bounds.top.ticks());
+    down_from(bounds, top, here, sign, by)
+}
+
+/// Where one leads that goes without a sign from this place, if that is on the logical page.
+#[inline(always)]
+fn down_from(
+    bounds: &FormBounds,
+    zero: Coordinate,
+    here: Coordinate,
+    sign: Sign,
+    by: u64,
+) -> Option<Coordinate>
+    requires { by ≤ 2 ^ 60 }
+    ensures { result ≡ place_between (pos 0) bounds.now.height (target_of sign zero here (pos by)) }
+{
+    let y = target_by(sign, zero, here, by, bounds.height)?;
     Some(Coordinate::from_ticks(y.ticks()))
 }
 
@@ -165,6 +188,62 @@ fn move_y_decipoints_on(bounds: &FormBounds, page: &mut Page, n: Number) -> Opti
     Some(0)
 }
 
+/// The most ticks by which a move leads that is judged in 64 bits.
+const MOST_TICKS: u64 = 1 << 60;
+
+/// So many columns or rows, in ticks, where these are whole and few enough for 64 bits.
+// As `times` finds it, but without a division of whole values, as most are.
+#[inline(always)]
+fn times_on(length: u64, n: Number) -> Option<u64>
+    ensures value { IfSome result (λ ticks. times length n.ten_thousandths ≡ Some ticks) }
+    ensures small { IfSome result (λ ticks. ticks ≤ 2 ^ 60) }
+{
+    let ticks = whole_or_parts(length, n)?;
+    if ticks > MOST_TICKS {
+        return None;
+    }
+    Some(ticks)
+}
+
+/// The same of any magnitude.
+#[inline(always)]
+fn whole_or_parts(length: u64, n: Number) -> Option<u64>
+    ensures { IfSome result (λ ticks. times length n.ten_thousandths ≡ Some ticks) }
+{
+    if n.is_whole() {
+        times_whole(length, n)
+    } else {
+        times_parts(length, n)
+    }
+}
+
+/// The same of a value without decimals.
+#[inline(always)]
+fn times_whole(length: u64, n: Number) -> Option<u64>
+    requires { is_whole (amount n) ≡ true }
+    ensures { IfSome result (λ ticks. times length n.ten_thousandths ≡ Some ticks) }
+{
+    let Some(ticks) = length.checked_mul(u64::from(n.whole_part())) else {
+        return None;
+    };
+    Some(ticks)
+}
+
+/// The same of a value with decimals.
+#[inline(always)]
+#[tactic(auto, unfolding(crate::specs::Places::times))]
+fn times_parts(length: u64, n: Number) -> Option<u64>
+    ensures { IfSome result (λ ticks. times length n.ten_thousandths ≡ Some ticks) }
+{
+    let Some(product) = length.checked_mul(u64::from(n.ten_thousandths)) else {
+        return None;
+    };
+    if product % 10_000 != 0 {
+        return None;
+    }
+    Some(product / 10_000)
+}
+
 /// `&a#C`, where it goes and an HMI is set.
 #[inline(always)]
 fn move_columns_on(bounds: &FormBounds, page: &mut Page, n: Number) -> Option<u64>
@@ -173,8 +252,8 @@ fn move_columns_on(bounds: &FormBounds, page: &mut Page, n: Number) -> Option<u6
 {
     let hmi = page.env.job.hmi?;
     let column = ticks_in(Unit::HundredTwentiethInch, hmi);
-    let by = times(column, n.ten_thousandths)?;
-    let x = target(n.sign, 0, page.cursor.x.ticks(), by, bounds.width)?;
+    let by = times_on(column, n)?;
+    let x = across(bounds, page, n.sign, by)?;
     page.cursor.x = x;
     Some(0)
 }
@@ -190,11 +269,61 @@ fn move_rows_on(bounds: &FormBounds, page: &mut Page, n: Number) -> Option<u64>
     };
     let here = page.cursor.y?;
     let line = ticks_in(Unit::FortyEighthInch, vmi);
-    let by = times(line, n.ten_thousandths)?;
+    let by = times_on(line, n)?;
     let first = first_line(page.env.job.top_margin, vmi);
-    let y = target_down(n.sign, first, here, by, bounds.height)?;
+    let y = down_from(bounds, first, here, n.sign, by)?;
     page.cursor.y = Some(y);
     Some(0)
+}
+
+/// `&f0S`, where it goes and the cursor is not at home.
+#[inline(always)]
+fn push_on(bounds: &FormBounds, page: &mut Page, n: Number) -> Option<u64>
+    requires whole { is_whole_between 0 1 (amount n) ≡ true }
+    requires push { whole_of (amount n) ≡ 0 }
+    ensures goes { FormsBy bounds.now CursorStack (amount n) page.old page.new result }
+    ensures same { IfNone result (page.new ≡ page.old) }
+{
+    let here = page.cursor.y?;
+    if page.stack.is_full() {
+        return None;
+    }
+    page.stack.push(Cursor {
+        x: page.cursor.x,
+        y: Some(here),
+    });
+    Some(0)
+}
+
+/// `&f1S`, where it goes.
+#[inline(always)]
+fn pop_on(bounds: &FormBounds, page: &mut Page, n: Number) -> Option<u64>
+    requires whole { is_whole_between 0 1 (amount n) ≡ true }
+    requires pop { (whole_of (amount n) == 0) ≡ false }
+    ensures goes { FormsBy bounds.now CursorStack (amount n) page.old page.new result }
+    ensures same { IfNone result (page.new ≡ page.old) }
+{
+    let Some(cursor) = page.stack.pop() else {
+        return None;
+    };
+    page.cursor = cursor;
+    Some(0)
+}
+
+/// `&f#S`, where it goes, and the cursor is not at home where it is pushed.
+#[inline(always)]
+fn use_stack_on(bounds: &FormBounds, page: &mut Page, n: Number) -> Option<u64>
+    ensures goes { FormsBy bounds.now CursorStack (amount n) page.old page.new result }
+    ensures same { IfNone result (page.new ≡ page.old) }
+{
+    if !is_whole_between(0, 1, n) {
+        return None;
+    }
+    if whole_of(n) == 0 {
+        push_on(bounds, page, n)
+    } else {
+        pop_on(bounds, page, n)
+    }
 }
 
 /// `*c#A`, where it goes.
@@ -302,14 +431,15 @@ pub fn is_of_forms(command: Command) -> bool {
             | Command::VerticalDecipoints
             | Command::Column
             | Command::Row
+            | Command::CursorStack
             | Command::RectangleWidth
             | Command::RectangleHeight
             | Command::FillRectangle
     )
 }
 
-/// Carries out a command that moves the cursor or makes a rectangle, by what it takes from the
-/// page, where it is known that it goes, and tells how many marks it made.
+/// Carries out a command that moves the cursor, uses its stack or makes a rectangle, by what it
+/// takes from the page, where it is known that it goes, and tells how many marks it made.
 #[inline(always)]
 pub fn form_on(bounds: &FormBounds, page: &mut Page, command: Command, n: Number) -> Option<u64>
     ensures goes { FormsBy bounds.now command (amount n) page.old page.new result }
@@ -322,6 +452,7 @@ pub fn form_on(bounds: &FormBounds, page: &mut Page, command: Command, n: Number
         Command::VerticalDecipoints => move_y_decipoints_on(bounds, page, n),
         Command::Column => move_columns_on(bounds, page, n),
         Command::Row => move_rows_on(bounds, page, n),
+        Command::CursorStack => use_stack_on(bounds, page, n),
         Command::RectangleWidth => set_width_on(bounds, page, n),
         Command::RectangleHeight => set_height_on(bounds, page, n),
         Command::FillRectangle => fill_on(bounds, page, n),

@@ -1,12 +1,16 @@
-//! Lines that the pen draws in a box, one behind another, so that what they read of the page is
-//! read once.
+//! Moves of the pen in a box, one behind another, so that what they read of the page is read once.
 #![tactic(auto)]
 
-ghost use Rattle.std.specs.Prelude.{◌≡◌, ◌^◌, cond, IsFalse, IsTrue, IfSome};
-ghost use Rattle.pcl_items.specs.declared.frame.Motion.TheVariants.{Absolute, Relative};
+ghost use Rattle.std.specs.Prelude.{◌≡◌, ◌≤◌, ◌^◌, ◌==◌, ◌||◌, ℤ, IfNone, IfSome, IsTrue, Some};
+ghost use Rattle.std.specs.Prelude.{length, not, true};
+ghost use Rattle.pcl_items.specs.declared.frame.Motion.TheVariants.{Down};
+ghost use Rattle.pcl_items.specs.Items.{pair};
+ghost use Rattle.page_env.specs.declared.mark.PenLine.{PenLine};
+ghost use Rattle.page_env.specs.declared.page.PenPlace.{PenPlace};
 ghost use Rattle.page_env.specs.Numbers.{IsWithin};
 ghost use Rattle.page_env.specs.Pens.{place_of};
 ghost use Rattle.page_env.specs.Plot.{lies_within, DrawsTo, DrawsWithin, LinesGo};
+ghost use Rattle.page_env.specs.Plot.{dots, led, lines_to, turned};
 
 use crate::frames::{Frame, foot_of, frame_on};
 use crate::page::{Page, Pen, PenCoordinate, PenPlace};
@@ -25,8 +29,6 @@ pub struct PenBounds {
     pub low: PenPlace,
     /// Its upper right corner.
     pub high: PenPlace,
-    /// The motion beside `PD` that changes nothing.
-    pub kept: Motion,
 }
 
 /// A coordinate of a corner, which lies where the pen may be.
@@ -36,15 +38,7 @@ fn corner(ticks: i64) -> PenCoordinate {
 
 /// The box in which both ends of lines may lie that reach half a width further. Nothing is promised
 /// of its sides: its diagonal is judged before a line goes by it.
-fn box_for(
-    geometry: &Geometry,
-    origin: &Origin,
-    frame: &Frame,
-    half: i64,
-    kept: Motion,
-) -> PenBounds
-    ensures { result.kept ≡ kept }
-{
+fn box_for(geometry: &Geometry, origin: &Origin, frame: &Frame, half: i64) -> PenBounds {
     let left = origin.x.ticks().saturating_add(frame.left.ticks());
     let foot = origin.y.ticks().saturating_add(foot_of(frame));
     let low_x = geometry.printable_left.ticks().saturating_add(half);
@@ -62,7 +56,6 @@ fn box_for(
             x: corner(right),
             y: corner(upper.min(frame.height.ticks())),
         },
-        kept,
     }
 }
 
@@ -102,23 +95,12 @@ fn lines_go(
         && place_within(frame, low_of(bounds), high_of(bounds)).is_some()
 }
 
-/// The motion beside `PD` that changes nothing.
-fn kept_by(pen: &Pen) -> Motion
-    ensures { result ≡ cond pen.now.is_relative Relative Absolute }
-{
-    if pen.is_relative {
-        Motion::Relative
-    } else {
-        Motion::Absolute
-    }
-}
-
-/// Where the pen draws, if it is down and that is known whatever the panel.
+/// Where the pen moves and draws, if it is one that draws and that is known whatever the panel.
 pub fn pen_bounds<A: Allocator>(profile: &Profile<A>, page: &Page) -> Option<PenBounds>
     ensures { IfSome result (λ bounds. DrawsWithin profile.now page.now bounds) }
 {
     let pen = &page.env.job.pen;
-    if page.raster.is_some() || !pen.is_down || pen.number == 0 {
+    if page.raster.is_some() || pen.number == 0 {
         return None;
     }
     let Some((geometry, origin)) = known_geometry(profile, page) else {
@@ -126,7 +108,7 @@ pub fn pen_bounds<A: Allocator>(profile: &Profile<A>, page: &Page) -> Option<Pen
     };
     let frame = frame_on(geometry, &page.env.job.frame);
     let half = (ticks_in(Unit::Millimetre, pen.width) / 2) as i64;
-    let bounds = box_for(geometry, &origin, &frame, half, kept_by(pen));
+    let bounds = box_for(geometry, &origin, &frame, half);
     if lines_go(geometry, &origin, &frame, pen.width, &bounds)
         && lies_within(&bounds, own_place(pen.place))
     {
@@ -146,25 +128,132 @@ fn lies_within(bounds: &PenBounds, place: Target) -> bool
         && lies_between(bounds.low.y.ticks(), bounds.high.y.ticks(), place.y)
 }
 
-/// Draws a line to a pair of coordinates, where a command of this motion changes nothing before and
-/// they lead within the box, and tells whether it did. Its mark is not told.
+/// The pen as the own step of a command leaves it.
 #[inline(always)]
-pub fn draw_on(bounds: &PenBounds, page: &mut Page, motion: Motion, to: Coordinates) -> bool
-    ensures drawn { IsTrue result →
-        DrawsTo bounds.now motion (to.x.units, to.y.units) page.old page.new }
-    ensures same { IsFalse result → page.new ≡ page.old }
+fn turned(pen: &Pen, motion: Motion) -> Pen
+    ensures { result ≡ turned motion pen.now }
 {
-    if motion != Motion::Down && motion != bounds.kept {
-        return false;
+    let pen = *pen;
+    match motion {
+        Motion::Up => Pen {
+            is_down: false,
+            ..pen
+        },
+        Motion::Down => Pen {
+            is_down: true,
+            ..pen
+        },
+        Motion::Absolute => Pen {
+            is_relative: false,
+            ..pen
+        },
+        Motion::Relative => Pen {
+            is_relative: true,
+            ..pen
+        },
     }
-    let target = pen_target(&page.env.job.pen, to);
+}
+
+/// Where coordinates lead this pen, or none.
+#[inline(always)]
+fn target_of(pen: &Pen, to: Option<Coordinates>) -> Target
+    ensures { place_of result ≡ led pen.now (pair to) }
+{
+    match to {
+        None => own_place(pen.place),
+        Some(to) => pen_target(pen, to),
+    }
+}
+
+/// The place to which coordinates lead this pen, or none, if that is in the box.
+#[inline(always)]
+fn led(bounds: &PenBounds, pen: &Pen, to: Option<Coordinates>) -> Option<PenPlace>
+    ensures inside { IfSome result (λ place. lies_within bounds.now place ≡ true) }
+    ensures place { IfSome result (λ place. place ≡ led pen.now (pair to)) }
+{
+    let target = target_of(pen, to);
     if !lies_within(bounds, target) {
-        return false;
+        return None;
     }
-    page.env.job.pen.place = PenPlace {
-        x: PenCoordinate::from_ticks(target.x),
-        y: PenCoordinate::from_ticks(target.y),
-    };
-    page.marked = true;
-    true
+    let x = PenCoordinate::from_ticks(target.x);
+    let y = PenCoordinate::from_ticks(target.y);
+    Some(PenPlace { x, y })
+}
+
+/// How many dots a command marks: one where it lowers the raised pen.
+#[inline(always)]
+fn dots(pen: &Pen, motion: Motion) -> u64
+    ensures count { (line : PenPlace → PenPlace → PenLine) →
+        length (dots line motion pen.now) ≡ result }
+    ensures few { result ≤ 1 }
+{
+    match motion {
+        Motion::Down => dots_of_down(pen),
+        Motion::Up => 0,
+        Motion::Absolute => 0,
+        Motion::Relative => 0,
+    }
+}
+
+/// How many of them a lowered pen marks.
+#[inline(always)]
+fn dots_of_down(pen: &Pen) -> u64
+    ensures count { (line : PenPlace → PenPlace → PenLine) →
+        length (dots line Down pen.now) ≡ result }
+    ensures few { result ≤ 1 }
+{
+    if pen.is_down { 0 } else { 1 }
+}
+
+/// How many lines coordinates mark: one with this pen down.
+#[inline(always)]
+fn lines_to(pen: &Pen, to: Option<Coordinates>) -> u64
+    ensures count { (line : PenPlace → PenPlace → PenLine) →
+        length (lines_to line pen.now (pair to)) ≡ result }
+    ensures few { result ≤ 1 }
+{
+    match to {
+        None => 0,
+        Some(_) => lines_of(pen),
+    }
+}
+
+/// How many a pair of coordinates marks.
+#[inline(always)]
+fn lines_of(pen: &Pen) -> u64
+    ensures count { (line : PenPlace → PenPlace → PenLine) (to : ℤ × ℤ) →
+        length (lines_to line pen.now (Some to)) ≡ result }
+    ensures few { result ≤ 1 }
+{
+    if pen.is_down { 1 } else { 0 }
+}
+
+/// Whether a page is marked behind so many marks.
+#[inline(always)]
+fn is_marked(marks: u64, marked: bool) -> bool
+    ensures { result ≡ (not (marks == 0) || marked) }
+{
+    marks != 0 || marked
+}
+
+/// Carries out a command that moves the pen, or a further pair of its coordinates, where it leads
+/// within the box, and tells how many lines it marked. These are not told.
+#[inline(always)]
+pub fn draw_on(
+    bounds: &PenBounds,
+    page: &mut Page,
+    motion: Motion,
+    to: Option<Coordinates>,
+) -> Option<u64>
+    ensures drawn { IfSome result (λ marks.
+        DrawsTo bounds.now motion (pair to) marks page.old page.new) }
+    ensures same { IfNone result (page.new ≡ page.old) }
+{
+    let pen = turned(&page.env.job.pen, motion);
+    let place = led(bounds, &pen, to)?;
+    let marks = dots(&page.env.job.pen, motion) + lines_to(&pen, to);
+    let marked = is_marked(marks, page.marked);
+    page.env.job.pen = Pen { place, ..pen };
+    page.marked = marked;
+    Some(marks)
 }

@@ -14,7 +14,7 @@ use Rattle.page_env.specs.declared.page.Page.{Page}
 use Rattle.page_env.specs.Effect.{Goes, effect_of}
 use Rattle.page_env.specs.declared.lookup.FormBounds.{FormBounds}
 use Rattle.page_env.specs.Forms.{Across, AcrossDecipoints, Columns, Down, DownDecipoints, Filled, Form, FormGoes, FormsBy, Height}
-use Rattle.page_env.specs.Forms.{Rows, Width, command_of}
+use Rattle.page_env.specs.Forms.{Rows, Stacked, Width, command_of}
 use Rattle.page_env.specs.Mark.{Shape}
 use Rattle.page_env.specs.Settings.{Settings, State, state_at}
 use Rattle.page_env.specs.Table.{command_transition}
@@ -38,6 +38,7 @@ one_step printer conditions s n AcrossDecipoints = refl
 one_step printer conditions s n DownDecipoints = refl
 one_step printer conditions s n Columns = refl
 one_step printer conditions s n Rows = refl
+one_step printer conditions s n Stacked = refl
 one_step printer conditions s n Width = refl
 one_step printer conditions s n Height = refl
 one_step printer conditions s n Filled = refl
@@ -70,6 +71,9 @@ module _ (machine : MachineState) (n : Amount) (none : machine.macros.definition
       ap (λ d. cond (is_some d) (defined_after item (defining_of item) machine.macros) machine.macros) none
   macros_stay Rows =
       let item : Entry = Parameterized commands.Row n in
+      ap (λ d. cond (is_some d) (defined_after item (defining_of item) machine.macros) machine.macros) none
+  macros_stay Stacked =
+      let item : Entry = Parameterized commands.CursorStack n in
       ap (λ d. cond (is_some d) (defined_after item (defining_of item) machine.macros) machine.macros) none
   macros_stay Width =
       let item : Entry = Parameterized commands.RectangleWidth n in

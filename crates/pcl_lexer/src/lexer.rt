@@ -1,7 +1,7 @@
 //! The lexer.
 
-ghost use Rattle.std.specs.Prelude.{◌≡◌, ◌==◌, ◌≤◌, ◌-◌, ◌+◌, ◌^◌, ◌++◌, ℕ, List, [], length};
-ghost use Rattle.std.specs.Prelude.{get_or, take, drop, false, true, vec_len, vec_capacity, IfNone};
+ghost use Rattle.std.specs.Prelude.{◌≡◌, ◌≤◌, ◌-◌, ◌+◌, ◌^◌, ◌++◌, ℕ, List, [], length};
+ghost use Rattle.std.specs.Prelude.{take, drop, false, true, vec_len, vec_capacity, IfNone};
 ghost use Rattle.std.specs.Prelude.{IfOk, IfSome, OnOk, OnErr};
 ghost use Rattle.std.specs.Borrow.{sem};
 
@@ -18,8 +18,8 @@ use crate::lexer::ahead::{
 use crate::lexer::first::{Context, First, Numbers};
 use crate::lexer::lexed::Lexed;
 use crate::pcl::command_with_data::row_in;
-use crate::pcl::parameterized::parameterized_in;
-use pcl_items::{Data, Item, LexFault, LineEnd, Place, SimpleItem};
+use crate::pcl::parameterized::{parameterized_in, short_in};
+use pcl_items::{Data, Group, Item, LexFault, LineEnd, Place, SimpleItem};
 use std::alloc::{AllocError, Allocator, Global};
 use std::marker::Model;
 
@@ -183,6 +183,37 @@ impl<A: Allocator> Lexer<A> {
         })
     }
 
+    /// The command of rectangles (`*c`) that stands next with a short number, as most have, where
+    /// it is known that one does: the item that `next` would give.
+    ///
+    /// It tells nothing of what else may stand next. What executes it needs no table, since there
+    /// are few of the group.
+    #[inline(always)]
+    pub fn next_rectangle(&mut self) -> Option<PlacedItem>
+        ensures command { IfSome result (λ read. IsNext self.old (answer_of read) self.new) }
+        ensures none { IfNone result (self.new ≡ self.old) }
+    {
+        self.next_short(Group::Rectangle)
+    }
+
+    /// So it is with a move in PCL units (`*p`).
+    #[inline(always)]
+    pub fn next_move(&mut self) -> Option<PlacedItem>
+        ensures command { IfSome result (λ read. IsNext self.old (answer_of read) self.new) }
+        ensures none { IfNone result (self.new ≡ self.old) }
+    {
+        self.next_short(Group::UnitPosition)
+    }
+
+    /// So it is with a move by columns, rows or decipoints, or a margin (`&a`).
+    #[inline(always)]
+    pub fn next_position(&mut self) -> Option<PlacedItem>
+        ensures command { IfSome result (λ read. IsNext self.old (answer_of read) self.new) }
+        ensures none { IfNone result (self.new ≡ self.old) }
+    {
+        self.next_short(Group::Position)
+    }
+
     /// The carriage return or line feed that stands next, where it is known that one does: the item
     /// that `next` would give.
     ///
@@ -230,14 +261,6 @@ impl<A: Allocator> Lexer<A> {
         })
     }
 
-    /// Whether a comma stands next, as between the pairs of coordinates of one command.
-    #[inline(always)]
-    pub fn is_before_comma(&self) -> bool
-        ensures { result ≡ (get_or self.now.rest 0 0 == 44) }
-    {
-        matches!(self.unread(), [b',', ..])
-    }
-
     /// The command of a frame that moves the pen and has no coordinates, that stands next, where it
     /// is known that one does: the item that `next` would give.
     ///
@@ -257,6 +280,21 @@ impl<A: Allocator> Lexer<A> {
             place: read.place,
             item: SimpleItem::Move(read.motion, None),
         })
+    }
+
+    /// The command of a frame that moves the pen, or the further pair of one, that stands next,
+    /// where it is known that one does: the item that `next` would give.
+    ///
+    /// It tells nothing of what else may stand next.
+    #[inline(always)]
+    pub fn next_pen_move(&mut self) -> Option<PlacedItem>
+        ensures moves { IfSome result (λ read. IsNext self.old (answer_of read) self.new) }
+        ensures none { IfNone result (self.new ≡ self.old) }
+    {
+        if let Some(read) = self.next_pair() {
+            return Some(read);
+        }
+        self.next_motion()
     }
 
     /// The row of a raster that stands next, where it is known that one does with all of its data:
@@ -351,6 +389,26 @@ impl<A: Allocator> Lexer<A> {
         ensures { ReadsLines self.old (take count (ahead_of self.old)) self.new }
     {
         self.at += count;
+    }
+
+    /// The parameterized command of this group that stands next with a short number, where it is
+    /// known that one does.
+    #[inline(always)]
+    #[tactic(auto, using(crate::proofs::Lexing::Steps::is_next))]
+    fn next_short(&mut self, group: Group) -> Option<PlacedItem>
+        ensures command { IfSome result (λ read. IsNext self.old (answer_of read) self.new) }
+        ensures none { IfNone result (self.new ≡ self.old) }
+    {
+        let Some(read) = short_in(group, self.context, self.unread()) else {
+            return None;
+        };
+        let place = self.place();
+        self.at += read.len;
+        self.context = read.next;
+        Some(PlacedItem {
+            place,
+            item: SimpleItem::Parameterized(read.command, read.number),
+        })
     }
 
     /// The bytes that were fed and are not read.

@@ -9,7 +9,7 @@ use Rattle.pcl_items.specs.Items.{Entry, Parameterized}
 use Rattle.page_env.specs.declared.page.Page.{Page}
 use Rattle.page_env.specs.declared.lookup.FormBounds.{FormBounds}
 use Rattle.page_env.specs.Forms.{Across, AcrossDecipoints, Columns, Down, DownDecipoints, Filled, Form, Height, LeavesRest, Rows}
-use Rattle.page_env.specs.Forms.{Width, command_of}
+use Rattle.page_env.specs.Forms.{Stacked, Width, command_of}
 use Rattle.page_env.specs.Likeness.{command_asks_alike}
 use Rattle.page_env.specs.Mark.{Shape}
 use Rattle.page_env.specs.Settings.{state_at}
@@ -42,6 +42,7 @@ form_asks AcrossDecipoints p q n = refl
 form_asks DownDecipoints p q n = refl
 form_asks Columns p q n = refl
 form_asks Rows p q n = refl
+form_asks Stacked p q n = refl
 form_asks Width p q n = refl
 form_asks Height p q n = refl
 form_asks Filled p q n = refl

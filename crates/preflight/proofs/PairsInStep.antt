@@ -1,13 +1,12 @@
--- A pair of coordinates that the machines of a fleet draw to in step.
-use Rattle.std.proofs.Common.{◌≡◌, ◌⊎◌, inl, inr, ℤ, false, None, Some, List, [], ◌∷◌, refl, sym, ◌∙◌}
+-- Moves of the pen that the machines of a fleet execute in step.
+use Rattle.std.proofs.Common.{◌≡◌, ◌⊎◌, inl, inr, ℕ, ℤ, false, Option, None, List, [], ◌∷◌, map, refl, sym, ◌∙◌}
 use Rattle.pcl_items.specs.declared.frame.Motion.{Motion}
 use Rattle.pcl_items.specs.Items.{Entry, Move}
 use Rattle.page_env.specs.declared.plot.PenBounds.{PenBounds}
-use Rattle.page_env.specs.Mark.{Line}
 use Rattle.page_machine.specs.Event.{Event, Marked}
 use Rattle.page_machine.specs.Likeness.{RunsOnLike}
 use Rattle.page_machine.specs.MachineState.{MachineState}
-use Rattle.page_machine.specs.PenLines.{DrawsPair}
+use Rattle.page_machine.specs.PenLines.{MovesPen}
 use Rattle.preflight.specs.declared.lockstep.FleetMode.{FleetMode}
 use Rattle.preflight.specs.declared.lockstep.FleetMode.TheVariants.{Alone, Together, Apart}
 use Rattle.preflight.specs.Carriers.Each.{Each}
@@ -15,22 +14,22 @@ use Rattle.preflight.specs.Carriers.FleetMode.{others_in, IsFormed, AskAlike, Go
 use Rattle.preflight.specs.Carriers.Lockstep.{Execute, Does}
 use Rattle.preflight.proofs.FleetModes.{all_do}
 
-module _ (law : (item : Entry) → RunsOnLike item) (box : PenBounds) (motion : Motion) (to : ℤ × ℤ) (fleet_mode : FleetMode)
-    (first first' : MachineState) (others : List MachineState)
+module _ (law : (item : Entry) → RunsOnLike item) (box : PenBounds) (motion : Motion) (to : Option (ℤ × ℤ)) (marks : ℕ)
+    (fleet_mode : FleetMode) (first first' : MachineState) (others : List MachineState)
     (running : first.stopped ≡ false) (formed : IsFormed fleet_mode first others)
     (together : (fleet_mode ≡ Alone) ⊎ (fleet_mode ≡ Together))
-    (bare : first.page.env.job.overlay ≡ None) (draws : DrawsPair box motion to first first') where
+    (bare : first.page.env.job.overlay ≡ None) (moves : MovesPen box motion to marks first first') where
   abbrev item : Entry
-  item = Move motion (Some to)
+  item = Move motion to
 
   abbrev events : List Event
-  events = Marked (Line draws.line) ∷ []
+  events = map Marked moves.shapes
 
   first_does : Does (Execute item) events first first'
   first_does = record {
-    is = draws.is ∙ (λ i. record first { page = first'.page; macros = sym draws.macros i; mode = sym draws.mode i; stopped = running i });
-    peaks = draws.peaks;
-    run = draws.run;
+    is = moves.is ∙ (λ i. record first { page = first'.page; macros = sym moves.macros i; mode = sym moves.mode i; stopped = running i });
+    peaks = moves.peaks;
+    run = moves.run;
   }
 
   asks_nothing : (ms : List MachineState) → AskAlike first item ms

@@ -59,6 +59,33 @@ impl<'p, A: Allocator + Copy, P: Allocator> Lockstep<'p, A, P> {
         if self.form(read.item, known) {
             return true;
         }
+        self.step_unknown(read, known, measure, state, failing_item)
+    }
+
+    /// Has each machine execute a command as `step_read` does, and keeps nothing of the page.
+    // A call of its own: most commands are known to go, and what executes them is to stay small.
+    #[inline(never)]
+    fn step_unknown(
+        &mut self,
+        read: PlacedItem,
+        known: &mut Option<FormBounds>,
+        measure: &mut Option<TextMeasure<'p, P>>,
+        state: &mut CheckState,
+        failing_item: &mut Option<FailingItem>,
+    ) -> bool
+        requires running { AreRunning (machines_of self.old) }
+        requires admitted { AllAdmit (Execute (simple_view read.item)) (machines_of self.old) }
+        requires open { state.old ≡ Open }
+        ensures came { StandsBy state.new
+            (λ failed. GoesInStep (Execute (simple_view read.item)) read.place
+            (machines_of self.old) (machines_of self.new)
+            (counts_of self.old) (counts_of self.new) failed) }
+        ensures open { result ≡ is_open state.new }
+        ensures told { IsFalse result → Names failing_item.new (simple_view read.item) }
+        ensures untold { IsTrue result → failing_item.new ≡ failing_item.old }
+        ensures no_bounds { known.new ≡ None }
+        ensures no_measure { measure.new ≡ None }
+    {
         forget_bounds(known);
         forget_measure(measure);
         self.step_read(read, state, failing_item)

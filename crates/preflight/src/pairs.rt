@@ -21,50 +21,29 @@ impl<A: Allocator + Copy, P: Allocator> Checking<'_, A, P> {
         one_reading();
         watched_runs_are_alike();
         loop {
-            if !self.execute_further() {
+            if !self.execute_in_box() {
                 return false;
             }
-            if let Some(read) = self.lexer.next_pair() {
-                let item = Item::Simple(read.item);
-                let (state, failing_item) = (&mut self.state, &mut self.failing_item);
-                if !self.machines.step(read.place, &item, state, failing_item) {
-                    return false;
-                }
-            } else if let Some(read) = self.lexer.next_motion() {
-                let item = Item::Simple(read.item);
-                let (state, failing_item) = (&mut self.state, &mut self.failing_item);
-                if !self
-                    .machines
-                    .step_other(read.place, &item, state, failing_item)
-                {
-                    return false;
-                }
-            } else {
+            let Some(read) = self.lexer.next_pen_move() else {
                 return true;
+            };
+            let item = Item::Simple(read.item);
+            let (state, failing_item) = (&mut self.state, &mut self.failing_item);
+            if !self
+                .machines
+                .step_other(read.place, &item, state, failing_item)
+            {
+                return false;
             }
         }
     }
 
-    /// Executes pairs of coordinates as `execute_pairs` does, where a comma stands before the
-    /// first, and tells whether the check is still open.
-    // A box is looked for only behind a comma, so that single lines look for none.
-    #[inline(always)]
-    fn execute_further(&mut self) -> bool
-        requires { MayExecute self.old }
-        ensures { ExecutesOn self.old self.new result }
-    {
-        if !self.lexer.is_before_comma() {
-            return true;
-        }
-        self.execute_pairs()
-    }
-
-    /// Executes the pairs of coordinates that stand next, where it is known in which box the pen
-    /// draws, up to the first that is not drawn in it, which goes as any other item; and tells
-    /// whether the check is still open.
-    // A call of its own: a plot is mostly pairs, and what executes them keeps nothing else.
+    /// Executes the commands that move the pen and the pairs of coordinates that stand next, where
+    /// it is known in which box the pen draws, up to the first that is not known to lead within it,
+    /// which goes as any other item; and tells whether the check is still open.
+    // A call of its own: a plot is mostly these, and what executes them keeps nothing else.
     #[inline(never)]
-    fn execute_pairs(&mut self) -> bool
+    fn execute_in_box(&mut self) -> bool
         requires { MayExecute self.old }
         ensures { ExecutesOn self.old self.new result }
     {
@@ -74,7 +53,7 @@ impl<A: Allocator + Copy, P: Allocator> Checking<'_, A, P> {
             return true;
         };
         loop {
-            let Some(read) = self.lexer.next_pair() else {
+            let Some(read) = self.lexer.next_pen_move() else {
                 return true;
             };
             if !self.machines.draw_pair(&bounds, read.item) {

@@ -35,7 +35,31 @@ impl<A: Allocator + Copy, P: Allocator> Checking<'_, A, P> {
         let mut known = None;
         let mut measure = None;
         loop {
-            if let Some(read) = self.lexer.next_command() {
+            if let Some(read) = self.lexer.next_rectangle() {
+                let (state, failing_item) = (&mut self.state, &mut self.failing_item);
+                if !self
+                    .machines
+                    .step_known(read, &mut known, &mut measure, state, failing_item)
+                {
+                    return false;
+                }
+            } else if let Some(read) = self.lexer.next_move() {
+                let (state, failing_item) = (&mut self.state, &mut self.failing_item);
+                if !self
+                    .machines
+                    .step_known(read, &mut known, &mut measure, state, failing_item)
+                {
+                    return false;
+                }
+            } else if let Some(read) = self.lexer.next_position() {
+                let (state, failing_item) = (&mut self.state, &mut self.failing_item);
+                if !self
+                    .machines
+                    .step_known(read, &mut known, &mut measure, state, failing_item)
+                {
+                    return false;
+                }
+            } else if let Some(read) = self.lexer.next_command() {
                 let (state, failing_item) = (&mut self.state, &mut self.failing_item);
                 if !self
                     .machines

@@ -1,4 +1,4 @@
-//! Pairs of coordinates, to which a machine draws where it is known that the line goes.
+//! Commands that move the pen, where a machine carries them out as known to lead within a box.
 
 use crate::items::items_of;
 use crate::steps::step_all;
@@ -11,49 +11,62 @@ use std::alloc::{Allocator, Global};
 use std::process::Abort;
 use std::test::Fail;
 
-/// Draws to the pair of an item, and tells whether it is known to go.
-fn draw<P: Allocator>(machine: &mut Machine<'_, P>, bounds: &PenBounds, item: &OwnedItem) -> bool {
+/// Carries out an item that moves the pen, and tells how many marks it made, where it is known to
+/// go.
+fn draw<P: Allocator>(
+    machine: &mut Machine<'_, P>,
+    bounds: &PenBounds,
+    item: &OwnedItem,
+) -> Option<u64> {
     match item.as_item() {
-        Item::Simple(SimpleItem::Move(motion, Some(to))) => machine.draw_on(bounds, motion, to),
-        _ => false,
+        Item::Simple(SimpleItem::Move(motion, to)) => machine.draw_on(bounds, motion, to),
+        _ => None,
     }
 }
 
-/// A job whose last items are pairs of coordinates and the end of the frame, and for each pair
-/// whether it is known to go, or nothing where it is not known where the pen draws.
-type Plot = (&'static [u8], Option<&'static [bool]>);
+/// A job whose last items move the pen and end the frame, and of each that moves it how many marks
+/// it makes, where it is known to go; or nothing where it is not known where the pen draws.
+type Plot = (&'static [u8], Option<&'static [Option<u64>]>);
 
 const PLOTS: &[Plot] = &[
-    // The pen is up, or none is selected, or the frame is stored.
-    (b"\x1bE\x1b%0BIN;SP1;PU1000,1000;\x1b%0A", None),
+    // None is selected, or the frame is stored.
     (b"\x1bE\x1b%0BIN;SP1;PU1000,1000;PD;SP0;\x1b%0A", None),
     (b"\x1bE\x1b&f0X\x1b%0BIN;SP1;PU1000,1000;PD;\x1b%0A", None),
-    // A command that keeps the pen down, or its motion.
+    // The pen is down.
     (
         b"\x1bE\x1b%0BIN;SP1;PU1000,1000;PD;PD2000,2000,3000,1000;\x1b%0A",
-        Some(&[true, true]),
+        Some(&[Some(1), Some(1)]),
     ),
     (
         b"\x1bE\x1b%0BIN;SP1;PU1000,1000;PD;PA2000,2000;\x1b%0A",
-        Some(&[true]),
+        Some(&[Some(1)]),
     ),
     (
-        b"\x1bE\x1b%0BIN;SP1;PU1000,1000;PD;PR;PR100,100,-2000,0,5,5;\x1b%0A",
-        Some(&[true, false, true]),
+        b"\x1bE\x1b%0BIN;SP1;PU1000,1000;PD;PR100,100,-2000,0,5,5;\x1b%0A",
+        Some(&[Some(1), None, Some(1)]),
     ),
-    // One that changes it.
-    (
-        b"\x1bE\x1b%0BIN;SP1;PU1000,1000;PD;PR100,100;\x1b%0A",
-        Some(&[false]),
-    ),
+    // It is raised, or stays so.
     (
         b"\x1bE\x1b%0BIN;SP1;PU1000,1000;PD;PU2000,2000;\x1b%0A",
-        Some(&[false]),
+        Some(&[Some(0)]),
+    ),
+    (
+        b"\x1bE\x1b%0BIN;SP1;PU1000,1000;PA2000,2000,8129,2000;\x1b%0A",
+        Some(&[Some(0), None]),
+    ),
+    // It is lowered, and marks a dot first.
+    (
+        b"\x1bE\x1b%0BIN;SP1;PU1000,1000;PD2000,2000,3000,1000;\x1b%0A",
+        Some(&[Some(2), Some(1)]),
+    ),
+    (
+        b"\x1bE\x1b%0BIN;SP1;PU1000,1000;PD;\x1b%0A",
+        Some(&[Some(1)]),
     ),
     // The frame is 8 inches wide.
     (
         b"\x1bE\x1b%0BIN;SP1;PU1000,1000;PD;PD7500,1000,8129,1000;\x1b%0A",
-        Some(&[true, false]),
+        Some(&[Some(1), None]),
     ),
 ];
 
@@ -81,7 +94,7 @@ fn check_plot(
 }
 
 #[test]
-fn pairs_are_drawn_in_the_box(rt: HostRuntime) -> Result<(), Fail> {
+fn moves_are_known_in_the_box(rt: HostRuntime) -> Result<(), Fail> {
     let profile = Sample::B.profile(rt.alloc())?;
     for plot in PLOTS {
         check_plot(&rt, rt.alloc(), &profile, *plot)?;

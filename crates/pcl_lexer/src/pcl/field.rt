@@ -103,7 +103,7 @@ const SHORT: usize = 5;
 /// The field in front, where it has at most four digits, and neither a sign nor a point.
 // Nothing else of a field is looked for where a letter stands behind the digits.
 #[inline(always)]
-fn short_field(bytes: &[u8]) -> Option<EndedField>
+pub fn short_field(bytes: &[u8]) -> Option<EndedField>
     ensures end { IfSome result (λ field.
         Ended (amount field.number) field.len field.last ≡ field_end bytes.now) }
     ensures within { IfSome result (λ field. (field.len ≤ 16) × (field.len < length bytes.now)) }

@@ -5,10 +5,10 @@
 
 ghost use Rattle.std.specs.Prelude.{◌≤◌, length, IfSome};
 ghost use Rattle.pcl_lexer.specs.Lexing.FirstView.{context_view};
-ghost use Rattle.pcl_lexer.specs.Escapes.ReadCommands.{IsAhead, IsInGroup};
+ghost use Rattle.pcl_lexer.specs.Escapes.ReadCommands.{IsAhead, IsEndedBy, IsInGroup};
 
 use crate::lexer::first::Context;
-use crate::pcl::field::{FieldEnd, field_end};
+use crate::pcl::field::{EndedField, FieldEnd, field_end, short_field};
 use pcl_items::{Command, Group, Number};
 
 /// A command with its number, how many bytes spell it, and what stands before the bytes after them.
@@ -46,6 +46,30 @@ pub fn parameterized_in(context: Context, bytes: &[u8]) -> Option<ReadCommand>
     })
 }
 
+/// The parameterized command of this group that stands first in the bytes with a short number,
+/// unless they begin with something else.
+// Where the group is written in the call, nothing is looked up of it.
+#[inline(always)]
+#[tactic(auto, unfolding(crate::specs::Reader::first_of))]
+pub fn short_in(group: Group, context: Context, bytes: &[u8]) -> Option<ReadCommand>
+    ensures { IfSome result (λ read. IsAhead read (context_view context) bytes.now) }
+{
+    match context {
+        Context::Sequence(begun) => return short_command(group, begun, bytes),
+        Context::Pcl => {}
+        _ => return None,
+    }
+    let [b'\x1b', introducer, character, rest @ ..] = bytes else {
+        return None;
+    };
+    let begun = Group::of(*introducer, *character)?;
+    let read = short_command(group, begun, rest)?;
+    Some(ReadCommand {
+        len: 3 + read.len,
+        ..read
+    })
+}
+
 /// The command of a group that stands first behind the group's characters, or behind a command of
 /// the group.
 #[inline(always)]
@@ -55,6 +79,28 @@ fn command(group: Group, bytes: &[u8]) -> Option<ReadCommand>
     let FieldEnd::Ended(field) = field_end(bytes) else {
         return None;
     };
+    ended_command(group, field)
+}
+
+/// The command with a short number that stands first behind what has begun a group, where it is
+/// this group.
+#[inline(always)]
+fn short_command(group: Group, begun: Group, bytes: &[u8]) -> Option<ReadCommand>
+    ensures { IfSome result (λ read. IsInGroup read begun bytes.now) }
+{
+    if begun != group {
+        return None;
+    }
+    let field = short_field(bytes)?;
+    ended_command(begun, field)
+}
+
+/// The command of a group that the byte behind a field ends.
+#[inline(always)]
+fn ended_command(group: Group, field: EndedField) -> Option<ReadCommand>
+    requires { field.len ≤ 16 }
+    ensures { IfSome result (λ read. IsEndedBy read group field) }
+{
     // The letters of commands are capital ones, so a byte that is no letter names none.
     let (letter, next) = match field.last {
         0..=95 => (field.last, Context::Pcl),

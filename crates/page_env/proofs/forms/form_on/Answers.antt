@@ -56,3 +56,9 @@ returns-in-FillRectangle-clause-goes c =
     let n = amount c.args.n in
     subst (λ command. FormsBy c.args.bounds.now command n c.args.page.now c.fill_on.new.page c.fill_on.result)
     (sym c.in-FillRectangle.is) c.fill_on.ensures.goes
+
+pub returns-in-CursorStack-clause-goes : goal.returns-in-CursorStack-clause-goes
+returns-in-CursorStack-clause-goes c =
+    let n = amount c.args.n in
+    subst (λ command. FormsBy c.args.bounds.now command n c.args.page.now c.use_stack_on.new.page c.use_stack_on.result)
+    (sym c.in-CursorStack.is) c.use_stack_on.ensures.goes

@@ -5,8 +5,8 @@ use Rattle.page_env.specs.Places.{first_line, place_between, target_of, ticks_in
 use Rattle.page_env.proofs.FormFacts.{rows_go}
 use Rattle.page_env.proofs.forms.move_rows_on.Goals as goal
 
-pub target_down-requires : goal.target_down-requires
-target_down-requires c = c.in_ok-by.ensures.small
+pub down_from-requires : goal.down_from-requires
+down_from-requires c = c.in_ok-by.ensures.small
 
 pub returns-clause-goes : goal.returns-clause-goes
 returns-clause-goes c = λ printer has.
@@ -15,8 +15,8 @@ returns-clause-goes c = λ printer has.
     let n = amount c.args.n in
     let vmi = c.in-Known.vmi in
     let whole : times (ticks_in FortyEighthInch vmi) n.ten_thousandths ≡ Some c.in_ok-by.by =
-    ap (λ k. times k n.ten_thousandths) (sym c.ticks_in-line.ensures.value) ∙ sym c.times.ensures.value ∙ c.in_ok-by.was in
-    let leads : c.target_down.result
+    ap (λ k. times k n.ten_thousandths) (sym c.ticks_in-line.ensures.value) ∙ c.in_ok-by.ensures.value in
+    let leads : c.down_from.result
     ≡ place_between (pos 0) bounds.height
     (target_of n.sign (first_line page.env.job.top_margin vmi) c.in_ok-here.here (pos c.in_ok-by.by)) =
     search rules in

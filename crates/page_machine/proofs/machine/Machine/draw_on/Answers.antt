@@ -1,11 +1,14 @@
-use Rattle.std.proofs.Common.{subst, sym}
+use Rattle.std.specs.Prelude.{IfSome}
+use Rattle.std.proofs.Common.{subst}
+use Rattle.pcl_items.specs.Items.{pair}
 use Rattle.page_machine.specs.MachineState.{MachineState}
-use Rattle.page_machine.specs.PenLines.{DrawsIn, DrawsPair}
-use Rattle.page_machine.proofs.PairItems.{pair_draws}
+use Rattle.page_machine.specs.PenLines.{DrawsIn, MovesPen}
+use Rattle.page_machine.proofs.PairItems.{pens_move}
 use Rattle.page_machine.proofs.machine.Machine.draw_on.Goals as goal
 
 pub returns-clause-drawn : goal.returns-clause-drawn
-returns-clause-drawn g c = λ yes draws.
+returns-clause-drawn g c =
+    let to = pair c.args.to in
     let fields : MachineState = record {
       printer = c.self.inside.profile.now;
       defaults = c.self.inside.defaults;
@@ -16,7 +19,8 @@ returns-clause-drawn g c = λ yes draws.
     } in
     subst
     (λ machine.
-    DrawsPair c.args.bounds.now c.args.motion (c.args.to.x.units, c.args.to.y.units) machine (record fields { page = c.draw_on.new.page }))
+    IfSome c.draw_on.result
+    (λ marks. DrawsIn c.args.bounds.now machine →
+    MovesPen c.args.bounds.now c.args.motion to marks machine (record fields { page = c.draw_on.new.page })))
     c.self.view_is
-    (pair_draws c.args.bounds.now fields c.args.motion (c.args.to.x.units, c.args.to.y.units) c.draw_on.new.page
-    (subst (DrawsIn c.args.bounds.now) (sym c.self.view_is) draws) (c.draw_on.ensures.drawn yes))
+    (pens_move c.args.bounds.now fields c.args.motion to c.draw_on.new.page c.draw_on.result c.draw_on.ensures.drawn)

@@ -1,4 +1,4 @@
-use Rattle.std.proofs.Common.{refl, sym, subst}
+use Rattle.std.proofs.Common.{refl, sym, subst, ◌∙◌}
 use Rattle.pcl_lexer.specs.Modes.{mode_of}
 use Rattle.preflight.specs.Carriers.Lockstep.{AreIn, machines_of}
 use Rattle.preflight.proofs.Answered.{all_admit_next}
@@ -9,7 +9,7 @@ use Rattle.preflight.proofs.checking.Checking.execute_pcl.Goals as goal
 pub loop-read-init : goal.loop-read-init
 loop-read-init g c = record { known = tt; measured = tt; goes = goes_none _ c.requires }
 
--- ---- a command
+-- ---- a command of rectangles
 
 pub step_known-requires-clause-known : goal.step_known-requires-clause-known
 step_known-requires-clause-known g c = c.loop-read.invariant.known
@@ -19,26 +19,144 @@ step_known-requires-clause-measured g c = c.loop-read.invariant.measured
 
 pub step_known-requires-clause-admitted : goal.step_known-requires-clause-admitted
 step_known-requires-clause-admitted g c =
-    all_admit_next _ _ _ c.in-Some.ensures.command _ _ refl _ c.loop-read.invariant.goes.through.modes
+    let so_far = c.loop-read.invariant.goes in
+    all_admit_next _ _ _ c.in-Some.ensures.command _ _ refl _ so_far.through.modes
 
-pub loop-read-preserved-else-not-step_known : goal.loop-read-preserved-else-not-step_known
+pub loop-read-preserved-else-not-step_known :
+    goal.loop-read-preserved-else-not-step_known
 loop-read-preserved-else-not-step_known g c =
+    let so_far = c.loop-read.invariant.goes in
     let step = c.step_known.ensures in
     record {
       known = step.known c.if-not-step_known.false;
       measured = step.measured c.if-not-step_known.false;
       goes =
           goes_open _ _ _ c.if-not-step_known.false
-          (item_behind _ _ _ _ c.one_reading.ensures c.watched_runs_are_alike.ensures _ _ _ refl c.loop-read.invariant.goes
+          (item_behind _ _ _ _ c.one_reading.ensures c.watched_runs_are_alike.ensures _ _ _ refl so_far
           c.in-Some.ensures.command step.open step.told step.untold step.came);
     }
 
 pub returns-then-not-step_known : goal.returns-then-not-step_known
 returns-then-not-step_known g c =
+    let so_far = c.loop-read.invariant.goes in
     let step = c.step_known.ensures in
     answered _ _ _ _ c.if-not-step_known.true
-    (item_behind _ _ _ _ c.one_reading.ensures c.watched_runs_are_alike.ensures _ _ _ refl c.loop-read.invariant.goes
+    (item_behind _ _ _ _ c.one_reading.ensures c.watched_runs_are_alike.ensures _ _ _ refl so_far
     c.in-Some.ensures.command step.open step.told step.untold step.came)
+
+-- ---- a move in PCL units
+
+pub step_known-requires-in-Some-next_move-clause-known : goal.step_known-requires-in-Some-next_move-clause-known
+step_known-requires-in-Some-next_move-clause-known g c = c.loop-read.invariant.known
+
+pub step_known-requires-in-Some-next_move-clause-measured : goal.step_known-requires-in-Some-next_move-clause-measured
+step_known-requires-in-Some-next_move-clause-measured g c = c.loop-read.invariant.measured
+
+pub step_known-requires-in-Some-next_move-clause-admitted : goal.step_known-requires-in-Some-next_move-clause-admitted
+step_known-requires-in-Some-next_move-clause-admitted g c =
+    let here = c.in_default.ensures.none in
+    let so_far = (goes_here _ _ _ here c.loop-read.invariant.goes) in
+    all_admit_next _ _ _ c.in-Some-next_move.ensures.command _ _ refl _ so_far.through.modes
+
+pub loop-read-preserved-else-not-step_known-in-Some-next_move :
+    goal.loop-read-preserved-else-not-step_known-in-Some-next_move
+loop-read-preserved-else-not-step_known-in-Some-next_move g c =
+    let here = c.in_default.ensures.none in
+    let so_far = (goes_here _ _ _ here c.loop-read.invariant.goes) in
+    let step = c.step_known-in-Some-next_move.ensures in
+    record {
+      known = step.known c.if-not-step_known-in-Some-next_move.false;
+      measured = step.measured c.if-not-step_known-in-Some-next_move.false;
+      goes =
+          goes_open _ _ _ c.if-not-step_known-in-Some-next_move.false
+          (item_behind _ _ _ _ c.one_reading.ensures c.watched_runs_are_alike.ensures _ _ _ refl so_far
+          c.in-Some-next_move.ensures.command step.open step.told step.untold step.came);
+    }
+
+pub returns-then-not-step_known-in-Some-next_move : goal.returns-then-not-step_known-in-Some-next_move
+returns-then-not-step_known-in-Some-next_move g c =
+    let here = c.in_default.ensures.none in
+    let so_far = (goes_here _ _ _ here c.loop-read.invariant.goes) in
+    let step = c.step_known-in-Some-next_move.ensures in
+    answered _ _ _ _ c.if-not-step_known-in-Some-next_move.true
+    (item_behind _ _ _ _ c.one_reading.ensures c.watched_runs_are_alike.ensures _ _ _ refl so_far
+    c.in-Some-next_move.ensures.command step.open step.told step.untold step.came)
+
+-- ---- a move by columns, rows or decipoints
+
+pub step_known-requires-in-Some-next_position-clause-known : goal.step_known-requires-in-Some-next_position-clause-known
+step_known-requires-in-Some-next_position-clause-known g c = c.loop-read.invariant.known
+
+pub step_known-requires-in-Some-next_position-clause-measured : goal.step_known-requires-in-Some-next_position-clause-measured
+step_known-requires-in-Some-next_position-clause-measured g c = c.loop-read.invariant.measured
+
+pub step_known-requires-in-Some-next_position-clause-admitted : goal.step_known-requires-in-Some-next_position-clause-admitted
+step_known-requires-in-Some-next_position-clause-admitted g c =
+    let here = c.in_default-next_move.ensures.none ∙ c.in_default.ensures.none in
+    let so_far = (goes_here _ _ _ here c.loop-read.invariant.goes) in
+    all_admit_next _ _ _ c.in-Some-next_position.ensures.command _ _ refl _ so_far.through.modes
+
+pub loop-read-preserved-else-not-step_known-in-Some-next_position :
+    goal.loop-read-preserved-else-not-step_known-in-Some-next_position
+loop-read-preserved-else-not-step_known-in-Some-next_position g c =
+    let here = c.in_default-next_move.ensures.none ∙ c.in_default.ensures.none in
+    let so_far = (goes_here _ _ _ here c.loop-read.invariant.goes) in
+    let step = c.step_known-in-Some-next_position.ensures in
+    record {
+      known = step.known c.if-not-step_known-in-Some-next_position.false;
+      measured = step.measured c.if-not-step_known-in-Some-next_position.false;
+      goes =
+          goes_open _ _ _ c.if-not-step_known-in-Some-next_position.false
+          (item_behind _ _ _ _ c.one_reading.ensures c.watched_runs_are_alike.ensures _ _ _ refl so_far
+          c.in-Some-next_position.ensures.command step.open step.told step.untold step.came);
+    }
+
+pub returns-then-not-step_known-in-Some-next_position : goal.returns-then-not-step_known-in-Some-next_position
+returns-then-not-step_known-in-Some-next_position g c =
+    let here = c.in_default-next_move.ensures.none ∙ c.in_default.ensures.none in
+    let so_far = (goes_here _ _ _ here c.loop-read.invariant.goes) in
+    let step = c.step_known-in-Some-next_position.ensures in
+    answered _ _ _ _ c.if-not-step_known-in-Some-next_position.true
+    (item_behind _ _ _ _ c.one_reading.ensures c.watched_runs_are_alike.ensures _ _ _ refl so_far
+    c.in-Some-next_position.ensures.command step.open step.told step.untold step.came)
+
+-- ---- any other command
+
+pub step_known-requires-in-Some-next_command-clause-known : goal.step_known-requires-in-Some-next_command-clause-known
+step_known-requires-in-Some-next_command-clause-known g c = c.loop-read.invariant.known
+
+pub step_known-requires-in-Some-next_command-clause-measured : goal.step_known-requires-in-Some-next_command-clause-measured
+step_known-requires-in-Some-next_command-clause-measured g c = c.loop-read.invariant.measured
+
+pub step_known-requires-in-Some-next_command-clause-admitted : goal.step_known-requires-in-Some-next_command-clause-admitted
+step_known-requires-in-Some-next_command-clause-admitted g c =
+    let here = c.in_default-next_position.ensures.none ∙ c.in_default-next_move.ensures.none ∙ c.in_default.ensures.none in
+    let so_far = (goes_here _ _ _ here c.loop-read.invariant.goes) in
+    all_admit_next _ _ _ c.in-Some-next_command.ensures.command _ _ refl _ so_far.through.modes
+
+pub loop-read-preserved-else-not-step_known-in-Some-next_command :
+    goal.loop-read-preserved-else-not-step_known-in-Some-next_command
+loop-read-preserved-else-not-step_known-in-Some-next_command g c =
+    let here = c.in_default-next_position.ensures.none ∙ c.in_default-next_move.ensures.none ∙ c.in_default.ensures.none in
+    let so_far = (goes_here _ _ _ here c.loop-read.invariant.goes) in
+    let step = c.step_known-in-Some-next_command.ensures in
+    record {
+      known = step.known c.if-not-step_known-in-Some-next_command.false;
+      measured = step.measured c.if-not-step_known-in-Some-next_command.false;
+      goes =
+          goes_open _ _ _ c.if-not-step_known-in-Some-next_command.false
+          (item_behind _ _ _ _ c.one_reading.ensures c.watched_runs_are_alike.ensures _ _ _ refl so_far
+          c.in-Some-next_command.ensures.command step.open step.told step.untold step.came);
+    }
+
+pub returns-then-not-step_known-in-Some-next_command : goal.returns-then-not-step_known-in-Some-next_command
+returns-then-not-step_known-in-Some-next_command g c =
+    let here = c.in_default-next_position.ensures.none ∙ c.in_default-next_move.ensures.none ∙ c.in_default.ensures.none in
+    let so_far = (goes_here _ _ _ here c.loop-read.invariant.goes) in
+    let step = c.step_known-in-Some-next_command.ensures in
+    answered _ _ _ _ c.if-not-step_known-in-Some-next_command.true
+    (item_behind _ _ _ _ c.one_reading.ensures c.watched_runs_are_alike.ensures _ _ _ refl so_far
+    c.in-Some-next_command.ensures.command step.open step.told step.untold step.came)
 
 -- ---- lines of text
 
@@ -50,17 +168,21 @@ execute_text-requires-clause-measured g c = c.loop-read.invariant.measured
 
 pub execute_text-requires-clause-modes : goal.execute_text-requires-clause-modes
 execute_text-requires-clause-modes g c =
-    subst (λ lexer. AreIn (mode_of lexer.context) (machines_of c.loop-read.self.machines)) (sym c.in_default.ensures.none)
+    let before = c.in_default-next_position.ensures.none ∙ c.in_default-next_move.ensures.none ∙ c.in_default.ensures.none in
+    let here = c.in_default-next_command.ensures.none ∙ before in
+    subst (λ lexer. AreIn (mode_of lexer.context) (machines_of c.loop-read.self.machines)) (sym here)
     c.loop-read.invariant.goes.through.modes
 
 pub loop-read-preserved : goal.loop-read-preserved
 loop-read-preserved g c =
+    let before = c.in_default-next_position.ensures.none ∙ c.in_default-next_move.ensures.none ∙ c.in_default.ensures.none in
+    let here = c.in_default-next_command.ensures.none ∙ before in
     let text = c.execute_text.ensures in
     record {
       known = text.known;
       measured = text.measured;
       goes =
-          goes_text _ c.loop-read.self _ c.execute_text.new.lexer c.execute_text.new.machines c.in_default.ensures.none
+          goes_text _ c.loop-read.self _ c.execute_text.new.lexer c.execute_text.new.machines here
           c.loop-read.invariant.goes
           record { ended = text.ended; place = text.place; no_more = text.no_more }
           record { running = text.running; modes = text.modes; executed = text.executed };
@@ -74,10 +196,12 @@ step_line_end-requires-clause-admitted g c =
 
 pub loop-read-preserved-else-not-step_line_end : goal.loop-read-preserved-else-not-step_line_end
 loop-read-preserved-else-not-step_line_end g c =
+    let before = c.in_default-next_position.ensures.none ∙ c.in_default-next_move.ensures.none ∙ c.in_default.ensures.none in
+    let here = c.in_default-next_command.ensures.none ∙ before in
     let text = c.execute_text.ensures in
     let step = c.step_line_end.ensures in
     let so_far =
-    goes_text _ c.loop-read.self _ c.execute_text.new.lexer c.execute_text.new.machines c.in_default.ensures.none
+    goes_text _ c.loop-read.self _ c.execute_text.new.lexer c.execute_text.new.machines here
     c.loop-read.invariant.goes
     record { ended = text.ended; place = text.place; no_more = text.no_more }
     record { running = text.running; modes = text.modes; executed = text.executed } in
@@ -92,10 +216,12 @@ loop-read-preserved-else-not-step_line_end g c =
 
 pub returns-then-not-step_line_end : goal.returns-then-not-step_line_end
 returns-then-not-step_line_end g c =
+    let before = c.in_default-next_position.ensures.none ∙ c.in_default-next_move.ensures.none ∙ c.in_default.ensures.none in
+    let here = c.in_default-next_command.ensures.none ∙ before in
     let text = c.execute_text.ensures in
     let step = c.step_line_end.ensures in
     let so_far =
-    goes_text _ c.loop-read.self _ c.execute_text.new.lexer c.execute_text.new.machines c.in_default.ensures.none
+    goes_text _ c.loop-read.self _ c.execute_text.new.lexer c.execute_text.new.machines here
     c.loop-read.invariant.goes
     record { ended = text.ended; place = text.place; no_more = text.no_more }
     record { running = text.running; modes = text.modes; executed = text.executed } in
@@ -107,9 +233,11 @@ returns-then-not-step_line_end g c =
 
 pub returns-in_default-next_line_end : goal.returns-in_default-next_line_end
 returns-in_default-next_line_end g c =
+    let before = c.in_default-next_position.ensures.none ∙ c.in_default-next_move.ensures.none ∙ c.in_default.ensures.none in
+    let here = c.in_default-next_command.ensures.none ∙ before in
     let text = c.execute_text.ensures in
     let so_far =
-    goes_text _ c.loop-read.self _ c.execute_text.new.lexer c.execute_text.new.machines c.in_default.ensures.none
+    goes_text _ c.loop-read.self _ c.execute_text.new.lexer c.execute_text.new.machines here
     c.loop-read.invariant.goes
     record { ended = text.ended; place = text.place; no_more = text.no_more }
     record { running = text.running; modes = text.modes; executed = text.executed } in

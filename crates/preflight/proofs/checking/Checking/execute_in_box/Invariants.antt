@@ -2,7 +2,7 @@ use Rattle.pcl_lexer.specs.Reading.{left}
 use Rattle.preflight.specs.Carriers.Lockstep.{machines_of}
 use Rattle.preflight.specs.Carriers.PairsInStep.{FirstDraws}
 use Rattle.preflight.proofs.Loops.{CheckGoesOn}
-use Rattle.preflight.proofs.checking.Checking.execute_pairs.Given as goal
+use Rattle.preflight.proofs.checking.Checking.execute_in_box.Given as goal
 
 abbrev pub invariant-loop-read : goal.invariant-loop-read
 invariant-loop-read g l = record {
