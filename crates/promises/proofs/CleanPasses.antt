@@ -21,7 +21,7 @@ use Rattle.preflight.specs.Wrong.{Wrong, wrong, findings_in, differences_in, of_
 use Rattle.preflight.specs.Verdict.{watched_items, runs_of, verdict_by, verdict_of}
 use Rattle.preflight.specs.Failing.{events_by_item}
 use Rattle.promises.specs.Clean.{IsClean, LeavesNothing, AreClean, PassesWhereClean}
-use Rattle.preflight.proofs.Same.{same_events}
+use Rattle.sinks.proofs.Same.{same_events}
 use Rattle.preflight.proofs.Side.{Agreed, agreed_findings}
 use Rattle.preflight.proofs.Passing.{all_contained}
 use Rattle.preflight.proofs.Parts.{AreOne, are_one}

@@ -18,6 +18,7 @@ ghost use Rattle.page_machine.specs.Job.{plain_run};
 ghost use Rattle.page_machine.specs.Laws.{IsSet};
 ghost use Rattle.page_machine.specs.Macros.{MacroContext};
 ghost use Rattle.page_machine.specs.Run.{Conditions};
+ghost use Rattle.promises.specs.Comparisons.{SaysSameForAll};
 ghost use Rattle.promises.specs.Closings.{ClosesInOrder, FixesInOrder};
 ghost use Rattle.promises.specs.Laws.{HasOneRun, HaveOnePlainText, IsPinned, IsReadAgain};
 ghost use Rattle.promises.specs.Laws.{PartPasses, RunAlike};
@@ -129,3 +130,12 @@ pub fn closings_are_in_order()
 pub fn started_rasters_have_places()
     ensures { (printer : Printer) (defaults : Settings) → RastersHavePlaces printer defaults }
 {}
+
+/// Two jobs that a check passes, and that print the same on one printer of its fleet from one
+/// panel, do so on every one from every panel.
+pub fn same_for_all()
+    ensures { (fleet : List Printer) (before after : List ℕ) →
+        SaysSameForAll fleet before after }
+{
+    one_reading();
+}
