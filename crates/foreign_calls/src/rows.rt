@@ -2,7 +2,7 @@
 ghost use Rattle.std.specs.Prelude.{◌≡◌};
 ghost use Rattle.foreign_calls.specs.Answers.{outcome_row, page_number, verdict_row};
 
-use preflight::Verdict;
+use verdict::Verdict;
 use renderings::Outcome;
 
 /// What came of a job. C calls it `struct pclcheck_verdict`.

@@ -6,7 +6,7 @@ ghost use Rattle.job_reports.specs.Reports.{number_told, verdict_told};
 
 use crate::reports::Report;
 use line_words::{push_named, push_reason};
-use preflight::Verdict;
+use verdict::Verdict;
 use requests::error_words;
 use shown_bytes::push_shown;
 use std::alloc::{AllocError, Allocator};

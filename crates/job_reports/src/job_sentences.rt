@@ -46,12 +46,12 @@ use crate::reports::Report;
 use device_profile::FontRequest;
 use line_words::{push_escaped, push_named, push_reason, short_reason};
 use page_env::Finding;
-use preflight::{FailingItem, MissingFont, SheetSpot, Verdict};
+use judgement::{FailingItem, MissingFont, SheetSpot};
+use verdict::{Reason, Verdict};
 use requests::error_words;
 use shown_bytes::{push_millimetres, push_shown, push_shown_text};
 use std::alloc::{AllocError, Allocator};
 use streams::Error;
-use verdict::Reason;
 
 /// Appends the sentence of a job: its name, what came of it, and for which printer.
 pub fn push_job_sentence<A: Allocator + Copy>(

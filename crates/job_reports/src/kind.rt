@@ -6,7 +6,7 @@ ghost use Rattle.job_reports.specs.Kinds.{kind_of, value_kind};
 use crate::left_out::{LeftOut, left_out_of};
 use page_env::Finding;
 use pcl_items::LexCause;
-use preflight::FailingItem;
+use judgement::FailingItem;
 use verdict::Reason;
 
 /// Who says no to a job.

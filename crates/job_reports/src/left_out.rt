@@ -10,7 +10,7 @@ ghost use Rattle.job_reports.specs.LeftOut.{where_is};
 use line_words::short_reason;
 use page_env::Finding;
 use pcl_items::{Command, Number, Setting, Sign, SimpleItem};
-use preflight::FailingItem;
+use judgement::FailingItem;
 use verdict::Reason;
 
 /// What pclcheck does not check of a value that HP's manual has, where it is 10 BadValue.

@@ -11,7 +11,7 @@ use line_words::push_name;
 use page_env::Finding;
 use pcl_items::{Item, LexCause, Name, SimpleItem};
 use pcl_spelling::spell;
-use preflight::FailingItem;
+use judgement::FailingItem;
 use std::alloc::{AllocError, Allocator};
 use verdict::Reason;
 

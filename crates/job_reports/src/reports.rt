@@ -10,7 +10,8 @@ ghost use Rattle.job_reports.specs.Reports.{
 };
 
 use crate::groups::PrinterGroup;
-use preflight::{FailingItem, Judgement, MissingFont, SheetSpot, Verdict};
+use judgement::{FailingItem, Judgement, MissingFont, SheetSpot};
+use verdict::Verdict;
 use std::alloc::Allocator;
 use std::marker::Model;
 use streams::Error;

@@ -7,7 +7,7 @@ ghost use Rattle.job_rows.specs.Kept.{kept_part};
 
 use crate::escapes::push_html;
 use crate::pictures::{push_picture, push_too_large};
-use preflight::Verdict;
+use verdict::Verdict;
 use requests::error_words;
 use std::alloc::{AllocError, Allocator};
 use streams::Error;

@@ -8,7 +8,7 @@ ghost use Rattle.job_reports.specs.Reports.{number_told, verdict_told};
 use crate::escapes::push_html;
 use job_reports::{Kind, Report, kind_of, push_job_sentence};
 use line_words::push_named;
-use preflight::Verdict;
+use verdict::Verdict;
 use std::alloc::{AllocError, Allocator};
 use streams::Error;
 

@@ -5,7 +5,7 @@ ghost use Rattle.job_rows.specs.Pictures.{picture_part, too_large};
 
 use base64::engine::general_purpose::STANDARD;
 use job_reports::{Kind, kind_of};
-use preflight::Verdict;
+use verdict::Verdict;
 use std::alloc::{AllocError, Allocator};
 use streams::Error;
 

@@ -7,7 +7,8 @@ ghost use Rattle.many_jobs.specs.JobRow.{ending_of_kept};
 
 use crate::telling::Telling;
 use job_reports::{Kind, kind_of};
-use preflight::{Judgement, Verdict};
+use judgement::Judgement;
+use verdict::Verdict;
 use std::alloc::Allocator;
 use streams::Error;
 

@@ -13,7 +13,8 @@ use crate::telling::Telling;
 use crate::told_lines::tell_line;
 use job_reports::PrinterGroup;
 use named_inputs::Jobs;
-use preflight::{Judgement, check_job_within};
+use judgement::Judgement;
+use preflight::check_job_within;
 use std::alloc::Allocator;
 use streams::{Error, Outlet, Source};
 

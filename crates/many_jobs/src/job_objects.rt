@@ -31,11 +31,11 @@ use job_reports::{
 };
 use line_words::{bare_name, push_escaped, push_field_words};
 use page_env::Finding;
-use preflight::{FailingItem, MissingFont, SheetSpot, Verdict};
+use judgement::{FailingItem, MissingFont, SheetSpot};
+use verdict::{Reason, Verdict};
 use shown_bytes::push_millimetres;
 use std::alloc::{AllocError, Allocator, Global};
 use streams::Error;
-use verdict::Reason;
 
 /// Appends the object of a job: its name, what came of it, for which printer, and this explanation,
 /// where there is one.

@@ -9,7 +9,7 @@ use crate::job_objects::push_job_object;
 use job_reports::{Report, push_job_line, push_job_sentence};
 use job_rows::{RowParts, push_row};
 use meanings::explain::explained_by;
-use preflight::Verdict;
+use verdict::Verdict;
 use std::alloc::{AllocError, Allocator, Global};
 use streams::Error;
 

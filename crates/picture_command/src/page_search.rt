@@ -22,13 +22,13 @@ use line_words::push_named;
 use page_env::{Finding, font_request, known_cursor};
 use page_machine::{Machine, Start, Stop};
 use pcl_items::{Item, LexFault, Place};
-use preflight::{FailingItem, Judgement, MissingFont, SheetSpot, Verdict};
+use judgement::{FailingItem, Judgement, MissingFont, SheetSpot};
+use verdict::{Failure, Verdict};
 use renderings::{Outcome, Renderer};
 use requests::{DrawnPages, Selection};
 use sinks::Counts;
 use std::alloc::{AllocError, Allocator};
 use streams::{Error, Outlet};
-use verdict::Failure;
 
 /// Whose pages are searched for, and for which printer: names for sentences.
 #[derive(Drop)]

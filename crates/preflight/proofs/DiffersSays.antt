@@ -10,9 +10,9 @@ use Rattle.page_env.specs.Settings.{watched}
 use Rattle.page_machine.specs.Job.{ItemRun, plain_run}
 use Rattle.page_machine.specs.Laws.{IsWatchedAlike, RunsPlainly}
 use Rattle.sinks.specs.Same.{are_same}
-use Rattle.preflight.specs.Wrong.{Wrong, findings_in, differences_in, of_each, first_run, first_wrong, soonest}
-use Rattle.preflight.specs.Verdict.{watched_items, runs_of}
-use Rattle.preflight.specs.Failing.{IsNumbered, GoesThrough, events_before, events_behind, SaysDiffers, FailSays}
+use Rattle.judgement.specs.Wrong.{Wrong, findings_in, differences_in, of_each, first_run, first_wrong, soonest}
+use Rattle.judgement.specs.Verdict.{watched_items, runs_of}
+use Rattle.judgement.specs.Failing.{IsNumbered, GoesThrough, events_before, events_behind, SaysDiffers, FailSays}
 use Rattle.preflight.proofs.Soonest.{IsIn, in_right, in_front, least}
 use Rattle.sinks.proofs.Same.{same_events}
 use Rattle.preflight.proofs.Differing.{IsDifference, its_difference, comes_through, goes_plainly, same_before, same_there, more_through}

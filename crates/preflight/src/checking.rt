@@ -8,7 +8,7 @@ ghost use Rattle.preflight.specs.CheckState.{Ends};
 ghost use Rattle.preflight.specs.Where.{page_with};
 
 use crate::check_state::CheckState;
-use crate::failing_item::FailingItem;
+use judgement::FailingItem;
 use crate::laws::fails_say;
 use crate::lockstep::Lockstep;
 use page_machine::{

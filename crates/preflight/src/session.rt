@@ -9,14 +9,15 @@ ghost use Rattle.verdict.specs.declared.verdict.Verdict.{Verdict};
 ghost use Rattle.preflight.specs.Session.{ChecksOn, HasChecked, HasRoom, IsJudged, IsOutOfMemory};
 ghost use Rattle.preflight.specs.Session.{page_told};
 ghost use Rattle.preflight.specs.Where.{page_with};
-ghost use Rattle.preflight.specs.Verdict.{IsExact, VerdictHolds};
+ghost use Rattle.judgement.specs.Verdict.{IsExact, VerdictHolds};
 ghost use Rattle.preflight.specs.Judgement.{IsJudgementOn};
 ghost use Rattle.preflight.specs.Stood.{LacksFont, IsOfSession, IsSpotOf};
 ghost use Rattle.preflight.specs.Carriers.Lockstep.{AreIn, AreRunning, counts_of, machines_of};
 
 use crate::check_state::CheckState;
 use crate::checking::Checking;
-use crate::failing_item::{FailingItem, MissingFont, SheetSpot, page_with};
+use crate::told::page_with;
+use judgement::{FailingItem, MissingFont, SheetSpot};
 use crate::laws::fails_say;
 use crate::lockstep::Lockstep;
 use crate::stood::{cursor_with, font_with};

@@ -3,7 +3,7 @@ use Rattle.std.specs.Prelude.{ℕ, List}
 use Rattle.std.specs.List.{Contains}
 use Rattle.device_profile.specs.declared.panel.Panel.{Panel}
 use Rattle.device_profile.specs.Printer.{Printer, IsAllowed}
-use Rattle.preflight.specs.Verdict.{PrintsAlike}
+use Rattle.judgement.specs.Verdict.{PrintsAlike}
 use Rattle.comparison.specs.Laws.{PrintsSame}
 
 -- Of two jobs that a check passes for a fleet, and that are the same on one of its printers from one panel, all that

@@ -27,7 +27,7 @@ ghost use Rattle.renderings.specs.Pins.{pinned_rendering};
 ghost use Rattle.streams.specs.Pieces.{ByReads, HasEnd};
 ghost use Rattle.streams.specs.Source.{SourceState};
 ghost use Rattle.promises.specs.Clean.{PassesWhereClean};
-ghost use Rattle.preflight.specs.Verdict.{IsExact, verdict_of};
+ghost use Rattle.judgement.specs.Verdict.{IsExact, verdict_of};
 
 use page_machine::{pinned_jobs_print_alike, unset_is_read, watched_is_plain};
 use pcl_lexer::one_reading;
