@@ -13,10 +13,10 @@ ghost use Rattle.job_reports.specs.CommandWords.{
 };
 
 use device_profile::FontRequest;
+use judgement::FailingItem;
 use line_words::push_escaped;
 use pcl_items::{DataCommand, Item, SimpleItem};
 use pcl_spelling::spell;
-use judgement::FailingItem;
 use shown_bytes::{push_amount, push_lettered, push_minus, push_number};
 use std::alloc::{AllocError, Allocator};
 

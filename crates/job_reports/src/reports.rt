@@ -11,10 +11,10 @@ ghost use Rattle.job_reports.specs.Reports.{
 
 use crate::groups::PrinterGroup;
 use judgement::{FailingItem, Judgement, MissingFont, SheetSpot};
-use verdict::Verdict;
 use std::alloc::Allocator;
 use std::marker::Model;
 use streams::Error;
+use verdict::Verdict;
 
 /// What came of a job for some printers.
 #[derive(Drop)]

@@ -8,9 +8,9 @@ ghost use Rattle.many_jobs.specs.JobRow.{ending_of_kept};
 use crate::telling::Telling;
 use job_reports::{Kind, kind_of};
 use judgement::Judgement;
-use verdict::Verdict;
 use std::alloc::Allocator;
 use streams::Error;
+use verdict::Verdict;
 
 /// How jobs count for the exit status.
 #[derive(Clone, Copy, Debug, PartialEq, Eq)]

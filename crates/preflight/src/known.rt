@@ -18,8 +18,8 @@ ghost use Rattle.preflight.specs.CheckState.{StandsBy, is_open};
 ghost use Rattle.preflight.specs.declared.check_state.CheckState.TheVariants.{Open};
 
 use crate::check_state::CheckState;
-use judgement::FailingItem;
 use crate::lockstep::{FleetMode, Lockstep};
+use judgement::FailingItem;
 use page_env::{FormBounds, TextMeasure, is_of_forms, items_go_on_like_printers};
 use page_machine::items_run_on_like_printers;
 use pcl_items::{Command, Number, SimpleItem};

@@ -16,12 +16,12 @@ ghost use Rattle.preflight.specs.Carriers.Lockstep.{AreIn, AreRunning, counts_of
 
 use crate::check_state::CheckState;
 use crate::checking::Checking;
-use crate::told::page_with;
-use judgement::{FailingItem, MissingFont, SheetSpot};
 use crate::laws::fails_say;
 use crate::lockstep::Lockstep;
 use crate::stood::{cursor_with, font_with};
+use crate::told::page_with;
 use device_profile::Profile;
+use judgement::{FailingItem, MissingFont, SheetSpot};
 use pcl_lexer::Lexer;
 use std::alloc::Allocator;
 use std::marker::Model;
