@@ -15,10 +15,10 @@ use device_profile::Profile;
 use job_reports::line_of;
 use named_inputs::{ProfileTexts, read_fleet};
 use preflight::check_job;
-use verdict::Verdict;
 use requests::Status;
 use std::alloc::Allocator;
 use streams::{Error, Latched, Outlet, Source, write_text};
+use verdict::Verdict;
 
 /// The command `check`: one line on standard output, by the verdict on the job for the printers
 /// that the words PROFILE name. Each profile is read and judged before the next one, and the job
