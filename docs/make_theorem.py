@@ -20,19 +20,19 @@ HEAD_OF_CHECK = "pub fn check_job<"
 PARTS = {
     "theorem: reads": (("streams/Pieces", "ByReads MayBeBy"),),
     "theorem: a Pass": (
-        ("preflight/Verdict", "VerdictHolds PrintsAlike RunsTo"),
+        ("judgement/Verdict", "VerdictHolds PrintsAlike RunsTo"),
         ("page_machine/Pages", "IsWithin IsPrintable IsInside"),
         ("page_machine/Job", "plain_run watched_run run_from")),
     "theorem: a Fail": (
-        ("preflight/Failing", "FailSays SaysFound SaysUnset SaysDiffers FindsNothing"),),
+        ("judgement/Failing", "FailSays SaysFound SaysUnset SaysDiffers FindsNothing"),),
     "theorem: exact": (
-        ("preflight/Verdict", "IsExact verdict_of verdict_from verdict_by"),
-        ("preflight/Wrong", "first_wrong all_wrong findings_in differences_in")),
-    "theorem: open": (("preflight/Verdict", "NeedsEachRead LeavesOpen"),),
+        ("judgement/Verdict", "IsExact verdict_of verdict_from verdict_by"),
+        ("judgement/Wrong", "first_wrong all_wrong findings_in differences_in")),
+    "theorem: open": (("judgement/Verdict", "NeedsEachRead LeavesOpen"),),
 }
 # What the clauses of `check_job` name, what a profile, its lists and its faces, and a source stand
 # for in them, and the printer that a text describes.
-ROOTS = (("preflight/Verdict", "VerdictHolds IsExact NeedsEachRead StaysOpen WasOpen"),
+ROOTS = (("judgement/Verdict", "VerdictHolds IsExact NeedsEachRead StaysOpen WasOpen"),
          ("streams/Pieces", "ByReads"), ("streams/Source", "Reads"),
          ("device_profile/Fields", "printer_of"),
          ("device_profile/ChoiceFields", "choices_of_fields"),

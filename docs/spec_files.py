@@ -115,7 +115,7 @@ class Specs:
         self.files = {module_of(path): read_file(tree, path) for path in paths}
 
     def file(self, path: str) -> SpecFile:
-        """The file CRATE/NAME, as `preflight/Verdict`."""
+        """The file CRATE/NAME, as `judgement/Verdict`."""
         crate, _, name = path.partition("/")
         module = f"Rattle.{crate}.specs.{name.replace('/', '.')}"
         if module not in self.files:

@@ -2,7 +2,7 @@
 use Rattle.std.specs.Prelude.{ℕ, ◌&&◌, ◌++◌, Bool, false, true, List, [], Option, None, Ok, Err, if◌then◌else◌}
 use Rattle.std.specs.Prelude.{flat_map, map}
 use Rattle.std.specs.declared.alloc.Global.{Global}
-use Rattle.preflight.specs.declared.failing_item.Judgement.{Judgement}
+use Rattle.judgement.specs.declared.failing_item.Judgement.{Judgement}
 use Rattle.requests.specs.declared.many_words.Form.{Form}
 use Rattle.requests.specs.declared.many_words.Form.TheVariants.{Line, Words, Json, Html}
 use Rattle.job_reports.specs.JobLines.{job_line}

@@ -17,9 +17,9 @@ use crate::sentences::{
 };
 use comparison::{Change, Comparison, Difference};
 use job_reports::{PrinterGroup, Report, push_job_line, push_job_sentence};
+use judgement::Judgement;
 use many_jobs::push_job_object;
 use page_comparison::{Differences, PageChange, PageComparison, PageDifference};
-use preflight::Judgement;
 use requests::Form;
 use sinks::Counts;
 use std::alloc::{AllocError, Global};

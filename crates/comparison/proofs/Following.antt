@@ -9,7 +9,7 @@ use Rattle.std.proofs.lemmas.Option.{slice_get-map, slice_get_past, slice_get_re
 use Rattle.device_profile.specs.declared.panel.Panel.{Panel}
 use Rattle.device_profile.specs.Printer.{Printer}
 use Rattle.page_machine.specs.Event.{Event}
-use Rattle.preflight.specs.Same.{is_same_event}
+use Rattle.sinks.specs.Same.{is_same_event}
 use Rattle.streams.specs.Source.{SourceState}
 use Rattle.comparison.specs.declared.difference.Comparison.TheVariants.{Differs}
 use Rattle.comparison.specs.declared.difference.Spot.{Spot}

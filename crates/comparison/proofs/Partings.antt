@@ -12,7 +12,7 @@ use Rattle.page_env.specs.declared.text_lines.TextPlace.{TextPlace}
 use Rattle.page_env.specs.Mark.{Shape}
 use Rattle.page_machine.specs.Event.{Event, Marked, TakesAll}
 use Rattle.page_machine.specs.MachineState.{MachineState}
-use Rattle.preflight.proofs.TextInStep.{shape_count, shapes_of}
+use Rattle.sinks.proofs.TextLines.{shape_count, shapes_of}
 use Rattle.streams.specs.Source.{SourceState}
 use Rattle.comparison.specs.declared.difference.Spot.{Spot}
 use Rattle.comparison.specs.declared.running_job.Progress.{Progress}

@@ -27,7 +27,7 @@ use Rattle.page_machine.specs.Machine.{item_of}
 use Rattle.page_machine.specs.MachineState.{MachineState}
 use Rattle.page_machine.specs.Run.{peaks_of}
 use Rattle.page_machine.specs.TextLines.{IsMeasuredAt, PrintsLines, glyph_events, machine_behind}
-use Rattle.preflight.proofs.TextInStep.{line_mode, lines_follow, shape_count, shapes_of}
+use Rattle.sinks.proofs.TextLines.{line_mode, lines_follow, shape_count, shapes_of}
 use Rattle.sinks.specs.Counts.{capped, counted, counts_after}
 use Rattle.streams.specs.Source.{SourceState}
 use Rattle.comparison.specs.declared.difference.Difference.{Difference}

@@ -12,8 +12,8 @@ use Rattle.device_profile.specs.Printer.{Printer}
 use Rattle.page_env.specs.Mark.{Shape}
 use Rattle.page_machine.specs.Event.{Event, Marked}
 use Rattle.page_machine.specs.Job.{ItemRun, events_of, plain_run}
-use Rattle.preflight.specs.Same.{is_same_event}
-use Rattle.preflight.proofs.Same.{events_decide}
+use Rattle.sinks.specs.Same.{is_same_event}
+use Rattle.sinks.proofs.Same.{events_decide}
 use Rattle.sinks.specs.declared.counts.Counts.{Counts}
 use Rattle.verdict.specs.declared.failure.Failure.{Failure}
 use Rattle.comparison.specs.declared.difference.Comparison.{Comparison}
@@ -23,7 +23,7 @@ use Rattle.comparison.specs.declared.difference.Spot.{Spot}
 use Rattle.comparison.specs.Comparison.{Made, made_at, all_made, at_start, behind_event, compared, comparison_from, difference_at, end_of}
 use Rattle.comparison.specs.Comparison.{failing_or, failure_on}
 use Rattle.comparison.specs.Changes.{at_origin, change_of, is_moved}
-use Rattle.comparison.specs.Laws.{SaysSame, SaysSameForAll}
+use Rattle.comparison.specs.Laws.{SaysSame}
 
 abbrev event_made : Made → Event
 event_made made = made.event
@@ -112,7 +112,7 @@ same_runs number printer panel old new counts h =
 
 -- ---- the laws
 
-one_reading_alone : (bytes : List ℕ) → HasOneReading bytes → (a b : Reading) → IsReading bytes a → IsReading bytes b → a ≡ b
+pub one_reading_alone : (bytes : List ℕ) → HasOneReading bytes → (a b : Reading) → IsReading bytes a → IsReading bytes b → a ≡ b
 one_reading_alone bytes one a b is_a is_b = one.only a is_a ∙ sym (one.only b is_b)
 
 pub says_same : ((bytes : List ℕ) → HasOneReading bytes) → (number : ℕ) (printer : Printer) (panel : Panel) (old new : List ℕ) →
@@ -122,19 +122,3 @@ says_same one number printer panel old new counts is old_reading new_reading is_
     ap events_from (one_reading_alone old (one old) old_reading is.0 is_old is.1)
     ∙ (same_runs number printer panel is.0 is.2 counts (sym is.4)
     ∙ ap events_from (one_reading_alone new (one new) is.2 new_reading is.3 is_new))
-
-pub says_same_for_all : ((bytes : List ℕ) → HasOneReading bytes) → (fleet : List Printer) (old new : List ℕ) →
-    SaysSameForAll fleet old new
-says_same_for_all one fleet old new old_pages old_marks new_pages new_marks of_old of_new first has_first at allowed_at same printer
-    has_printer panel allowed old_reading new_reading is_old is_new =
-    let old_whole : Reading = Whole of_old.items of_old.place in
-    let new_whole : Reading = Whole of_new.items of_new.place in
-    let events_are : of_old.events ≡ of_new.events =
-    sym (of_old.runs first has_first at allowed_at).same
-    ∙ (same old_whole new_whole of_old.spelled of_new.spelled ∙ (of_new.runs first has_first at allowed_at).same) in
-    let events_from : Reading → List Event = λ reading. events_of (plain_run printer panel reading).items in
-    ap events_from (one_reading_alone old (one old) old_reading old_whole is_old of_old.spelled)
-    ∙ ((of_old.runs printer has_printer panel allowed).same
-    ∙ (events_are
-    ∙ (sym (of_new.runs printer has_printer panel allowed).same
-    ∙ ap events_from (one_reading_alone new (one new) new_whole new_reading of_new.spelled is_new))))

@@ -6,7 +6,7 @@ use Rattle.page_env.specs.declared.mark.Glyph.{Glyph}
 use Rattle.page_env.specs.declared.mark.PenLine.{PenLine}
 use Rattle.page_env.specs.Mark.{PixelRow, Shape, Rectangle, Character, Row, Line}
 use Rattle.page_machine.specs.Event.{Event, Marked, Ended}
-use Rattle.preflight.specs.Same.{is_same_shape}
+use Rattle.sinks.specs.Same.{is_same_shape}
 use Rattle.comparison.specs.declared.difference.Change.{Change}
 use Rattle.comparison.specs.declared.difference.Change.TheVariants.{Moved, Changed, OnlyInOld, OnlyInNew, PageEnds}
 use Rattle.comparison.specs.declared.difference.Change.TheVariants.{PageOnlyInOld, PageOnlyInNew}

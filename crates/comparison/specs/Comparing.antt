@@ -5,7 +5,7 @@ use Rattle.std.specs.List.{slice_get}
 use Rattle.device_profile.specs.declared.panel.Panel.{Panel}
 use Rattle.device_profile.specs.Printer.{Printer}
 use Rattle.page_machine.specs.Event.{Event}
-use Rattle.preflight.specs.Same.{is_same_event}
+use Rattle.sinks.specs.Same.{is_same_event}
 use Rattle.streams.specs.declared.error.Error.{Error}
 use Rattle.streams.specs.Errors.{is_read}
 use Rattle.streams.specs.Pieces.{ByReads}

@@ -7,7 +7,7 @@ use Rattle.device_profile.specs.Printer.{Printer}
 use Rattle.page_env.specs.declared.finding.Finding.{Finding}
 use Rattle.page_machine.specs.Event.{Event, Marked, Ended}
 use Rattle.page_machine.specs.Job.{ItemRun, plain_run}
-use Rattle.preflight.specs.Same.{is_same_event}
+use Rattle.sinks.specs.Same.{is_same_event}
 use Rattle.sinks.specs.Counts.{capped, counted, no_counts}
 use Rattle.verdict.specs.declared.failure.Failure.{Failure}
 use Rattle.verdict.specs.Failing.{fault_at, found_at}

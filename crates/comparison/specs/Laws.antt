@@ -1,11 +1,9 @@
 -- What is said of two jobs that print the same.
 use Rattle.std.specs.Prelude.{◌≡◌, ℕ, List}
-use Rattle.std.specs.List.{Contains}
 use Rattle.pcl_lexer.specs.Reading.{Reading, IsReading}
 use Rattle.device_profile.specs.declared.panel.Panel.{Panel}
-use Rattle.device_profile.specs.Printer.{Printer, IsAllowed}
+use Rattle.device_profile.specs.Printer.{Printer}
 use Rattle.page_machine.specs.Job.{events_of, plain_run}
-use Rattle.preflight.specs.Verdict.{PrintsAlike}
 use Rattle.sinks.specs.declared.counts.Counts.{Counts}
 use Rattle.comparison.specs.declared.difference.Comparison.TheVariants.{Same}
 use Rattle.comparison.specs.Comparison.{IsComparison}
@@ -20,13 +18,3 @@ PrintsSame printer panel old new =
 abbrev pub SaysSame : ℕ → Printer → Panel → (old new : List ℕ) → Type 0
 SaysSame number printer panel old new =
     (counts : Counts) → IsComparison number printer panel old new (Same counts) → PrintsSame printer panel old new
-
--- Of two jobs that a check passes for a fleet, and that are the same on one of its printers from one panel, all that
--- the headline says of one holds of the other: they print the same on every printer from every panel.
-abbrev pub SaysSameForAll : List Printer → (old new : List ℕ) → Type 0
-SaysSameForAll fleet old new =
-    (old_pages old_marks new_pages new_marks : ℕ) →
-    PrintsAlike fleet old old_pages old_marks → PrintsAlike fleet new new_pages new_marks →
-    (one : Printer) → Contains fleet one → (at : Panel) → IsAllowed one at → PrintsSame one at old new →
-    (printer : Printer) → Contains fleet printer → (panel : Panel) → IsAllowed printer panel →
-    PrintsSame printer panel old new

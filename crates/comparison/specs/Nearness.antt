@@ -8,7 +8,7 @@ use Rattle.page_env.specs.declared.mark.Bounds.{Bounds}
 use Rattle.page_env.specs.Mark.{Shape, Rectangle, Character, Row, Line, pixels_per_inch}
 use Rattle.page_machine.specs.Event.{Event, Marked, Ended}
 use Rattle.page_machine.specs.Pages.{PrintedPage, pages}
-use Rattle.preflight.specs.Same.{are_same_bytes, is_same_end, is_same_fill}
+use Rattle.sinks.specs.Same.{are_same_bytes, is_same_end, is_same_fill}
 
 -- ---- in any order
 

@@ -3,7 +3,7 @@
 ghost use Rattle.std.specs.Prelude.{◌≡◌, ◌↔◌, IsTrue};
 ghost use Rattle.page_env.specs.Mark.{shape_of};
 ghost use Rattle.page_machine.specs.Event.{Marked};
-ghost use Rattle.preflight.specs.Same.{is_same_event};
+ghost use Rattle.sinks.specs.Same.{is_same_event};
 ghost use Rattle.sinks.specs.Owned.{event_of, shape_of_owned};
 
 use page_env::{Mark, RasterRow};

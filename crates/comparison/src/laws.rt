@@ -3,7 +3,7 @@
 ghost use Rattle.std.specs.Prelude.{List, ℕ};
 ghost use Rattle.device_profile.specs.Printer.{Printer};
 ghost use Rattle.device_profile.specs.declared.panel.Panel.{Panel};
-ghost use Rattle.comparison.specs.Laws.{SaysSame, SaysSameForAll};
+ghost use Rattle.comparison.specs.Laws.{SaysSame};
 
 use pcl_lexer::one_reading;
 
@@ -11,15 +11,6 @@ use pcl_lexer::one_reading;
 pub fn same_prints_same()
     ensures { (number : ℕ) (printer : Printer) (panel : Panel) (before after : List ℕ) →
         SaysSame number printer panel before after }
-{
-    one_reading();
-}
-
-/// Two jobs that a check passes, and that print the same on one printer of its fleet from one
-/// panel, do so on every one from every panel.
-pub fn same_for_all()
-    ensures { (fleet : List Printer) (before after : List ℕ) →
-        SaysSameForAll fleet before after }
 {
     one_reading();
 }

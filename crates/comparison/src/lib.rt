@@ -21,4 +21,4 @@ pub use compare::{Unread, Which, compare_jobs};
 pub use difference::{Change, Comparison, Difference, Spot};
 pub use events::lent;
 pub use follower::Follower;
-pub use laws::{same_for_all, same_prints_same};
+pub use laws::same_prints_same;

@@ -6,11 +6,11 @@ use Rattle.device_profile.specs.Printer.{Printer}
 use Rattle.device_profile.specs.Text.{IsErrorOfText}
 use Rattle.job_reports.specs.Groups.{Groups, reported}
 use Rattle.job_reports.specs.JobSentences.{job_sentence}
-use Rattle.preflight.specs.declared.failing_item.Judgement.{Judgement}
-use Rattle.preflight.specs.FailingItem.{IsTold}
+use Rattle.judgement.specs.declared.failing_item.Judgement.{Judgement}
+use Rattle.judgement.specs.FailingItem.{IsTold}
 use Rattle.preflight.specs.Judgement.{IsAnswer}
 use Rattle.preflight.specs.Stood.{IsCursorOf, IsFontOf}
-use Rattle.preflight.specs.Verdict.{IsExact, PassesItems, VerdictHolds}
+use Rattle.judgement.specs.Verdict.{IsExact, PassesItems, VerdictHolds}
 use Rattle.preflight.specs.Where.{IsOnPage}
 use Rattle.renderings.specs.declared.outcome.Outcome.{Outcome}
 use Rattle.renderings.specs.Expected.{IsExpected, Rendering, Renders}

@@ -3,9 +3,9 @@ use Rattle.std.specs.Prelude.{◌≡◌, ◌↔◌, ℕ, List, [], true, false, 
 use Rattle.device_profile.specs.Printer.{Printer}
 use Rattle.job_reports.specs.Groups.{Groups, reported}
 use Rattle.job_reports.specs.JobSentences.{job_sentence}
-use Rattle.preflight.specs.declared.failing_item.Judgement.{Judgement}
+use Rattle.judgement.specs.declared.failing_item.Judgement.{Judgement}
 use Rattle.preflight.specs.Judgement.{IsAnswer}
-use Rattle.preflight.specs.Verdict.{IsExact, VerdictHolds}
+use Rattle.judgement.specs.Verdict.{IsExact, VerdictHolds}
 use Rattle.streams.specs.declared.error.Error.{Error}
 use Rattle.streams.specs.declared.error.Error.TheVariants.{Items, NoProfile}
 use Rattle.verdict.specs.declared.verdict.Verdict.{Verdict}

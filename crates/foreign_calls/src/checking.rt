@@ -13,7 +13,8 @@ use crate::told::Told;
 use crate::why::Why;
 use device_profile::Profile;
 use job_reports::{PrinterGroup, Report, push_job_sentence};
-use preflight::{Judgement, check_job_within};
+use judgement::Judgement;
+use preflight::check_job_within;
 use std::alloc::{AllocError, Allocator};
 use streams::{Error, Latched};
 

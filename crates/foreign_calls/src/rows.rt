@@ -2,8 +2,8 @@
 ghost use Rattle.std.specs.Prelude.{◌≡◌};
 ghost use Rattle.foreign_calls.specs.Answers.{outcome_row, page_number, verdict_row};
 
-use preflight::Verdict;
 use renderings::Outcome;
+use verdict::Verdict;
 
 /// What came of a job. C calls it `struct pclcheck_verdict`.
 #[repr(C)]

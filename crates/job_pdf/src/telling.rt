@@ -7,7 +7,7 @@ ghost use Rattle.job_pdf.specs.Telling.{without_line_end};
 
 use crate::wanted::WantedPages;
 use job_reports::{Report, push_job_sentence, push_named_first};
-use preflight::Judgement;
+use judgement::Judgement;
 use requests::DrawnPages;
 use shown_bytes::push_number;
 use std::alloc::{AllocError, Allocator};

@@ -17,9 +17,9 @@ use Rattle.page_env.specs.declared.finding.Finding.TheVariants.{BadValue, NoFont
 use Rattle.verdict.specs.declared.reason.Reason.TheVariants.{Fault, Finding}
 use Rattle.verdict.specs.declared.verdict.Verdict.TheVariants.{Fail, Pass}
 use Rattle.command_names.specs.CommandNames.{table, texts_of}
-use Rattle.preflight.specs.declared.failing_item.FailingItem.{FailingItem}
-use Rattle.preflight.specs.declared.failing_item.FailingItem.TheVariants.{Simple}
-use Rattle.preflight.specs.declared.failing_item.Judgement.{Judgement}
+use Rattle.judgement.specs.declared.failing_item.FailingItem.{FailingItem}
+use Rattle.judgement.specs.declared.failing_item.FailingItem.TheVariants.{Simple}
+use Rattle.judgement.specs.declared.failing_item.Judgement.{Judgement}
 use Rattle.shown_bytes.specs.Decimals.{amount, minus}
 use Rattle.shown_bytes.specs.Lengths.{millimetres, signed_hundredths}
 use Rattle.shown_bytes.specs.Lettered.{lettered}

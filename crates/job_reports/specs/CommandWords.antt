@@ -7,8 +7,8 @@ use Rattle.pcl_items.specs.Escapes.Commands.{introducer_of, character_of, data_g
 use Rattle.pcl_items.specs.Items.{simple_view}
 use Rattle.line_words.specs.Figures.{escaped_byte}
 use Rattle.device_profile.specs.declared.font.FontRequest.{FontRequest}
-use Rattle.preflight.specs.declared.failing_item.FailingItem.{FailingItem}
-use Rattle.preflight.specs.declared.failing_item.FailingItem.TheVariants.{Text, Simple, WithData, Line}
+use Rattle.judgement.specs.declared.failing_item.FailingItem.{FailingItem}
+use Rattle.judgement.specs.declared.failing_item.FailingItem.TheVariants.{Text, Simple, WithData, Line}
 
 -- a byte of a spelling: a control code by its name, any other byte as `list` writes it
 abbrev pub code_words : ℕ → List ℕ

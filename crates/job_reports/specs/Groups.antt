@@ -1,7 +1,7 @@
 -- The printers that jobs are checked for, in groups.
 use Rattle.std.specs.Prelude.{ℕ, Bool, List, take, drop, length, Option, Result, if◌then◌else◌}
 use Rattle.device_profile.specs.Printer.{Printer}
-use Rattle.preflight.specs.declared.failing_item.Judgement.{Judgement}
+use Rattle.judgement.specs.declared.failing_item.Judgement.{Judgement}
 use Rattle.streams.specs.declared.error.Error.{Error}
 use Rattle.job_reports.specs.Reports.{Reported}
 

@@ -7,11 +7,11 @@ use Rattle.device_profile.specs.declared.font.FontRequest.{FontRequest}
 use Rattle.line_words.specs.Figures.{escaped_byte, named}
 use Rattle.line_words.specs.Reason.{reason_words, short_reason}
 use Rattle.page_env.specs.declared.finding.Finding.TheVariants.{BadValue, NoFont, NoGlyph}
-use Rattle.preflight.specs.declared.failing_item.FailingItem.{FailingItem}
-use Rattle.preflight.specs.declared.failing_item.FailingItem.TheVariants.{Text, Simple, WithData, Line}
-use Rattle.preflight.specs.declared.failing_item.Judgement.{Judgement}
-use Rattle.preflight.specs.declared.failing_item.MissingFont.{MissingFont}
-use Rattle.preflight.specs.declared.failing_item.SheetSpot.{SheetSpot}
+use Rattle.judgement.specs.declared.failing_item.FailingItem.{FailingItem}
+use Rattle.judgement.specs.declared.failing_item.FailingItem.TheVariants.{Text, Simple, WithData, Line}
+use Rattle.judgement.specs.declared.failing_item.Judgement.{Judgement}
+use Rattle.judgement.specs.declared.failing_item.MissingFont.{MissingFont}
+use Rattle.judgement.specs.declared.failing_item.SheetSpot.{SheetSpot}
 use Rattle.shown_bytes.specs.Lengths.{millimetres}
 use Rattle.shown_bytes.specs.Shown.{shown, shown_text}
 use Rattle.streams.specs.declared.error.Error.{Error}

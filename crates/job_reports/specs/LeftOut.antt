@@ -11,8 +11,8 @@ use Rattle.page_env.specs.declared.finding.Finding.TheVariants.{BadValue}
 use Rattle.page_env.specs.Numbers.{is_negative}
 use Rattle.verdict.specs.declared.reason.Reason.TheVariants.{Finding}
 use Rattle.line_words.specs.Reason.{short_reason}
-use Rattle.preflight.specs.declared.failing_item.FailingItem.{FailingItem}
-use Rattle.preflight.specs.declared.failing_item.FailingItem.TheVariants.{Simple}
+use Rattle.judgement.specs.declared.failing_item.FailingItem.{FailingItem}
+use Rattle.judgement.specs.declared.failing_item.FailingItem.TheVariants.{Simple}
 use Rattle.job_reports.specs.declared.left_out.LeftOut.{LeftOut}
 use Rattle.job_reports.specs.declared.left_out.LeftOut.TheVariants as left_outs
 

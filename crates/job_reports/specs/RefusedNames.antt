@@ -8,8 +8,8 @@ use Rattle.verdict.specs.declared.reason.Reason.{Reason}
 use Rattle.verdict.specs.declared.reason.Reason.TheVariants.{Fault, Finding}
 use Rattle.line_words.specs.Reason.{name_words}
 use Rattle.command_names.specs.CommandNames.{command_name}
-use Rattle.preflight.specs.declared.failing_item.FailingItem.{FailingItem}
-use Rattle.preflight.specs.declared.failing_item.FailingItem.TheVariants.{Simple}
+use Rattle.judgement.specs.declared.failing_item.FailingItem.{FailingItem}
+use Rattle.judgement.specs.declared.failing_item.FailingItem.TheVariants.{Simple}
 
 -- the key of a command with its value, as `*b2M`: the item's spelling without ESC
 abbrev pub value_key : Option FailingItem → Option (List ℕ)

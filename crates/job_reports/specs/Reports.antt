@@ -1,9 +1,9 @@
 -- What is told of a job.
 use Rattle.std.specs.Prelude.{ℕ, Bool, true, false, List, Option, None, Result, Ok, Err}
-use Rattle.preflight.specs.declared.failing_item.FailingItem.{FailingItem}
-use Rattle.preflight.specs.declared.failing_item.Judgement.{Judgement}
-use Rattle.preflight.specs.declared.failing_item.MissingFont.{MissingFont}
-use Rattle.preflight.specs.declared.failing_item.SheetSpot.{SheetSpot}
+use Rattle.judgement.specs.declared.failing_item.FailingItem.{FailingItem}
+use Rattle.judgement.specs.declared.failing_item.Judgement.{Judgement}
+use Rattle.judgement.specs.declared.failing_item.MissingFont.{MissingFont}
+use Rattle.judgement.specs.declared.failing_item.SheetSpot.{SheetSpot}
 use Rattle.streams.specs.declared.error.Error.{Error}
 use Rattle.verdict.specs.declared.verdict.Verdict.{Verdict}
 use Rattle.verdict.specs.declared.verdict.Verdict.TheVariants.{Pass, Fail}

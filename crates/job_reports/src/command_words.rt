@@ -2,7 +2,7 @@
 ghost use Rattle.std.specs.Prelude.{◌≡◌, ◌++◌, OnOk, flat_map};
 ghost use Rattle.pcl_items.specs.Spellings.Canon.{canon};
 ghost use Rattle.pcl_items.specs.Items.{simple_view};
-ghost use Rattle.preflight.specs.declared.failing_item.FailingItem.TheVariants.{WithData};
+ghost use Rattle.judgement.specs.declared.failing_item.FailingItem.TheVariants.{WithData};
 ghost use Rattle.job_reports.specs.CommandWords.{
   code_words,
   command_words,
@@ -13,10 +13,10 @@ ghost use Rattle.job_reports.specs.CommandWords.{
 };
 
 use device_profile::FontRequest;
+use judgement::FailingItem;
 use line_words::push_escaped;
 use pcl_items::{DataCommand, Item, SimpleItem};
 use pcl_spelling::spell;
-use preflight::FailingItem;
 use shown_bytes::{push_amount, push_lettered, push_minus, push_number};
 use std::alloc::{AllocError, Allocator};
 

@@ -6,11 +6,11 @@ ghost use Rattle.job_reports.specs.Reports.{number_told, verdict_told};
 
 use crate::reports::Report;
 use line_words::{push_named, push_reason};
-use preflight::Verdict;
 use requests::error_words;
 use shown_bytes::push_shown;
 use std::alloc::{AllocError, Allocator};
 use streams::Error;
+use verdict::Verdict;
 
 /// Appends the line of a job: what came of it, the printer that this is about, the number and the
 /// name of what is wrong, the job's name, and what the system says of a read that failed.

@@ -44,14 +44,14 @@ use crate::left_out::{LeftOut, left_out_of, value_words};
 use crate::refused_names::push_called;
 use crate::reports::Report;
 use device_profile::FontRequest;
+use judgement::{FailingItem, MissingFont, SheetSpot};
 use line_words::{push_escaped, push_named, push_reason, short_reason};
 use page_env::Finding;
-use preflight::{FailingItem, MissingFont, SheetSpot, Verdict};
 use requests::error_words;
 use shown_bytes::{push_millimetres, push_shown, push_shown_text};
 use std::alloc::{AllocError, Allocator};
 use streams::Error;
-use verdict::Reason;
+use verdict::{Reason, Verdict};
 
 /// Appends the sentence of a job: its name, what came of it, and for which printer.
 pub fn push_job_sentence<A: Allocator + Copy>(

@@ -4,9 +4,9 @@ ghost use Rattle.job_reports.specs.Kinds.{cause_kind, finding_kind, is_unchecked
 ghost use Rattle.job_reports.specs.Kinds.{kind_of, value_kind};
 
 use crate::left_out::{LeftOut, left_out_of};
+use judgement::FailingItem;
 use page_env::Finding;
 use pcl_items::LexCause;
-use preflight::FailingItem;
 use verdict::Reason;
 
 /// Who says no to a job.

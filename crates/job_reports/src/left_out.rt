@@ -7,10 +7,10 @@ ghost use Rattle.job_reports.specs.LeftOut.{left_out_by, left_out_in, left_out_o
 ghost use Rattle.job_reports.specs.LeftOut.{setting_left_out, takes_decimals, value_words};
 ghost use Rattle.job_reports.specs.LeftOut.{where_is};
 
+use judgement::FailingItem;
 use line_words::short_reason;
 use page_env::Finding;
 use pcl_items::{Command, Number, Setting, Sign, SimpleItem};
-use preflight::FailingItem;
 use verdict::Reason;
 
 /// What pclcheck does not check of a value that HP's manual has, where it is 10 BadValue.

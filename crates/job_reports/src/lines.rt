@@ -4,9 +4,8 @@ ghost use Rattle.job_reports.specs.Lines.{verdict_line};
 ghost use Rattle.verdict.specs.Failing.{failing};
 
 use line_words::{push_named, push_reason};
-use preflight::Verdict;
 use std::alloc::{AllocError, Allocator};
-use verdict::Failure;
+use verdict::{Failure, Verdict};
 
 /// The line of the verdict on a job that fails so, with its LF.
 pub fn line_of_failure<A: Allocator>(alloc: A, failure: Failure) -> Result<Vec<u8, A>, AllocError>

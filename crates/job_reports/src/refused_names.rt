@@ -7,11 +7,11 @@ ghost use Rattle.command_names.specs.CommandNames.{command_name};
 ghost use Rattle.job_reports.specs.RefusedNames.{called, refused_name, value_key, value_name};
 
 use command_names::command_name;
+use judgement::FailingItem;
 use line_words::push_name;
 use page_env::Finding;
 use pcl_items::{Item, LexCause, Name, SimpleItem};
 use pcl_spelling::spell;
-use preflight::FailingItem;
 use std::alloc::{AllocError, Allocator};
 use verdict::Reason;
 

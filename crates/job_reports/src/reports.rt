@@ -10,10 +10,11 @@ ghost use Rattle.job_reports.specs.Reports.{
 };
 
 use crate::groups::PrinterGroup;
-use preflight::{FailingItem, Judgement, MissingFont, SheetSpot, Verdict};
+use judgement::{FailingItem, Judgement, MissingFont, SheetSpot};
 use std::alloc::Allocator;
 use std::marker::Model;
 use streams::Error;
+use verdict::Verdict;
 
 /// What came of a job for some printers.
 #[derive(Drop)]

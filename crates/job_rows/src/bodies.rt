@@ -7,10 +7,10 @@ ghost use Rattle.job_rows.specs.Kept.{kept_part};
 
 use crate::escapes::push_html;
 use crate::pictures::{push_picture, push_too_large};
-use preflight::Verdict;
 use requests::error_words;
 use std::alloc::{AllocError, Allocator};
 use streams::Error;
+use verdict::Verdict;
 
 /// Appends notes, as they are told.
 pub(crate) fn push_notes<A: Allocator>(

@@ -8,9 +8,9 @@ ghost use Rattle.job_reports.specs.Reports.{number_told, verdict_told};
 use crate::escapes::push_html;
 use job_reports::{Kind, Report, kind_of, push_job_sentence};
 use line_words::push_named;
-use preflight::Verdict;
 use std::alloc::{AllocError, Allocator};
 use streams::Error;
+use verdict::Verdict;
 
 /// Appends the head of a row, with this explanation, where there is one.
 pub(crate) fn push_row_head<A: Allocator + Copy>(

@@ -6,10 +6,10 @@ ghost use Rattle.job_rows.specs.Links.{is_letter_or_digit, is_plain, last_part, 
 ghost use Rattle.job_rows.specs.Links.{link_part, told_of};
 
 use crate::escapes::is_between;
-use preflight::Verdict;
 use shown_bytes::hex_byte;
 use std::alloc::{AllocError, Allocator};
 use streams::Error;
+use verdict::Verdict;
 
 /// A folder, and the job whose document is in it.
 #[derive(Clone, Copy)]

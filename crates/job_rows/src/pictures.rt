@@ -5,9 +5,9 @@ ghost use Rattle.job_rows.specs.Pictures.{picture_part, too_large};
 
 use base64::engine::general_purpose::STANDARD;
 use job_reports::{Kind, kind_of};
-use preflight::Verdict;
 use std::alloc::{AllocError, Allocator};
 use streams::Error;
+use verdict::Verdict;
 
 /// Appends a picture, unless it is empty, since the job has no such page.
 pub(crate) fn push_picture<A: Allocator + Copy>(

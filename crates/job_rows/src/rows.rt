@@ -6,10 +6,10 @@ use crate::bodies::{push_near, push_notes, push_once, push_page};
 use crate::heads::push_row_head;
 use crate::links::{JobDocument, push_link};
 use job_reports::Report;
-use preflight::Verdict;
 use std::alloc::{AllocError, Allocator};
 use std::marker::Model;
 use streams::Error;
+use verdict::Verdict;
 
 /// What further readings of a job told, where there were some.
 #[derive(Drop)]

@@ -8,14 +8,14 @@ use Rattle.std.proofs.lemmas.List.{length-take, map-append, map_more}
 use Rattle.std.proofs.lemmas.List.Elements.{Contains-append_left, Contains-append_right}
 use Rattle.std.specs.Prelude.{Contains}
 use Rattle.device_profile.specs.Printer.{Printer}
-use Rattle.preflight.specs.Verdict.{IsExact, VerdictHolds, NeedsEachRead}
+use Rattle.judgement.specs.Verdict.{IsExact, VerdictHolds, NeedsEachRead}
 use Rattle.job_reports.specs.Right.{IsRightVerdict}
 use Rattle.streams.specs.Pieces.{ByReads}
 use Rattle.std.proofs.lemmas.Grind.{flat_map-append, fold-append}
 use Rattle.std.proofs.lemmas.List.FromFn.{map-range_with_len_more}
 use Rattle.streams.specs.declared.error.Error.{Error}
 use Rattle.streams.specs.declared.error.Error.TheVariants.{Memory, Read, Write, Turns, NoProfile, Items}
-use Rattle.preflight.specs.declared.failing_item.Judgement.{Judgement}
+use Rattle.judgement.specs.declared.failing_item.Judgement.{Judgement}
 use Rattle.streams.specs.Ended.{JobRead, job_read}
 use Rattle.streams.specs.Outlet.{OutletState, Adds, AddsFront}
 use Rattle.streams.specs.Source.{SourceState}

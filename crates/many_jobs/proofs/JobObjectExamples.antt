@@ -13,8 +13,8 @@ use Rattle.device_profile.specs.declared.font.FontRequest.{FontRequest}
 use Rattle.page_env.specs.declared.finding.Finding.TheVariants.{NoFont, NotOnDevice, Unset}
 use Rattle.verdict.specs.declared.reason.Reason.TheVariants.{Finding}
 use Rattle.verdict.specs.declared.verdict.Verdict.TheVariants.{Fail, Pass}
-use Rattle.preflight.specs.declared.failing_item.FailingItem.TheVariants.{Simple}
-use Rattle.preflight.specs.declared.failing_item.Judgement.{Judgement}
+use Rattle.judgement.specs.declared.failing_item.FailingItem.TheVariants.{Simple}
+use Rattle.judgement.specs.declared.failing_item.Judgement.{Judgement}
 use Rattle.streams.specs.declared.error.Error.{Error}
 use Rattle.streams.specs.declared.error.Error.TheVariants.{Read}
 use Rattle.many_jobs.specs.JobObjects.{job_object}

@@ -4,7 +4,7 @@ use Rattle.std.proofs.Common.{append-nil, option_map, subst, Bor, length, option
 use Rattle.std.proofs.lemmas.Option.{slice_get_past, slice_get_read}
 use Rattle.std.specs.Slice.{IsItemAt}
 use Rattle.device_profile.specs.Printer.{Printer}
-use Rattle.preflight.specs.declared.failing_item.Judgement.{Judgement}
+use Rattle.judgement.specs.declared.failing_item.Judgement.{Judgement}
 use Rattle.streams.specs.declared.error.Error.{Error}
 use Rattle.streams.specs.declared.error.Error.TheVariants.{Memory, Read, Write, Turns, NoProfile, Items}
 use Rattle.streams.specs.Ended.{JobRead}

@@ -5,13 +5,13 @@ use Rattle.std.specs.List.{AllByRecursion, range_with_len}
 use Rattle.device_profile.specs.Printer.{Printer}
 use Rattle.streams.specs.declared.error.Error.{Error}
 use Rattle.streams.specs.declared.error.Error.TheVariants.{Memory, Read, Write, Turns, NoProfile, Items}
-use Rattle.preflight.specs.declared.failing_item.FailingItem.{FailingItem}
-use Rattle.preflight.specs.declared.failing_item.Judgement.{Judgement}
-use Rattle.preflight.specs.FailingItem.{IsTold}
+use Rattle.judgement.specs.declared.failing_item.FailingItem.{FailingItem}
+use Rattle.judgement.specs.declared.failing_item.Judgement.{Judgement}
+use Rattle.judgement.specs.FailingItem.{IsTold}
 use Rattle.preflight.specs.Stood.{IsCursorOf, IsFontOf}
 use Rattle.preflight.specs.Where.{IsOnPage}
 use Rattle.streams.specs.Errors.{is_err_of_read}
-use Rattle.preflight.specs.Verdict.{PassesItems}
+use Rattle.judgement.specs.Verdict.{PassesItems}
 use Rattle.renderings.specs.Expected.{Rendering}
 use Rattle.verdict.specs.declared.verdict.Verdict.{Verdict}
 use Rattle.verdict.specs.Limits.{has_many_items}

@@ -7,9 +7,9 @@ use Rattle.device_profile.specs.declared.font.FontRequest.{FontRequest}
 use Rattle.line_words.specs.Figures.{escaped_byte}
 use Rattle.line_words.specs.Reason.{bare_name, field_words}
 use Rattle.page_env.specs.declared.finding.Finding.TheVariants.{NoGlyph}
-use Rattle.preflight.specs.declared.failing_item.FailingItem.{FailingItem}
-use Rattle.preflight.specs.declared.failing_item.MissingFont.{MissingFont}
-use Rattle.preflight.specs.declared.failing_item.SheetSpot.{SheetSpot}
+use Rattle.judgement.specs.declared.failing_item.FailingItem.{FailingItem}
+use Rattle.judgement.specs.declared.failing_item.MissingFont.{MissingFont}
+use Rattle.judgement.specs.declared.failing_item.SheetSpot.{SheetSpot}
 use Rattle.shown_bytes.specs.Lengths.{millimetres}
 use Rattle.streams.specs.declared.error.Error.{Error}
 use Rattle.streams.specs.declared.error.Error.TheVariants.{Memory, Read, Write, Turns, NoProfile, Items}

@@ -7,9 +7,10 @@ ghost use Rattle.many_jobs.specs.JobRow.{ending_of_kept};
 
 use crate::telling::Telling;
 use job_reports::{Kind, kind_of};
-use preflight::{Judgement, Verdict};
+use judgement::Judgement;
 use std::alloc::Allocator;
 use streams::Error;
+use verdict::Verdict;
 
 /// How jobs count for the exit status.
 #[derive(Clone, Copy, Debug, PartialEq, Eq)]

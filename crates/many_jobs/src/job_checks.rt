@@ -12,8 +12,9 @@ use crate::job_row::tell_row;
 use crate::telling::Telling;
 use crate::told_lines::tell_line;
 use job_reports::PrinterGroup;
+use judgement::Judgement;
 use named_inputs::Jobs;
-use preflight::{Judgement, check_job_within};
+use preflight::check_job_within;
 use std::alloc::Allocator;
 use streams::{Error, Outlet, Source};
 

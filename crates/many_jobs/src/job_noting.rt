@@ -17,13 +17,14 @@ use crate::telling::Telling;
 use crate::told_lines::tell_line;
 use device_profile::Profile;
 use job_reports::PrinterGroup;
+use judgement::Judgement;
 use named_inputs::{Jobs, KeptText, kept_error};
 use notes::notes_of;
-use preflight::{Judgement, Verdict};
 use renderings::Outcome;
 use std::alloc::Allocator;
 use std::io;
 use streams::{Error, Outlet, Source, write_text};
+use verdict::Verdict;
 
 /// The printer that notes are told for: the first of these, where the job passes.
 pub fn note_printer<A: Allocator>(

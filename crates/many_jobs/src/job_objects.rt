@@ -29,13 +29,13 @@ use device_profile::FontRequest;
 use job_reports::{
     Kind, Report, kind_of, push_command_words, push_font_commands, push_refused_name,
 };
+use judgement::{FailingItem, MissingFont, SheetSpot};
 use line_words::{bare_name, push_escaped, push_field_words};
 use page_env::Finding;
-use preflight::{FailingItem, MissingFont, SheetSpot, Verdict};
 use shown_bytes::push_millimetres;
 use std::alloc::{AllocError, Allocator, Global};
 use streams::Error;
-use verdict::Reason;
+use verdict::{Reason, Verdict};
 
 /// Appends the object of a job: its name, what came of it, for which printer, and this explanation,
 /// where there is one.

@@ -22,12 +22,13 @@ use crate::telling::{Telling, push_told_row};
 use device_profile::Profile;
 use job_reports::{PrinterGroup, Report};
 use job_rows::{JobDocument, RowParts};
+use judgement::Judgement;
 use named_inputs::system_words::system_words;
 use named_inputs::{Jobs, is_input};
-use preflight::{Judgement, Verdict};
 use std::alloc::{AllocError, Allocator};
 use std::io;
 use streams::{Error, Outlet, write_text};
+use verdict::Verdict;
 
 /// Writes the row of a job of which this came, with what the system says of an error.
 ///

@@ -9,9 +9,9 @@ use crate::job_objects::push_job_object;
 use job_reports::{Report, push_job_line, push_job_sentence};
 use job_rows::{RowParts, push_row};
 use meanings::explain::explained_by;
-use preflight::Verdict;
 use std::alloc::{AllocError, Allocator, Global};
 use streams::Error;
+use verdict::Verdict;
 
 /// The form of what is told of a job.
 #[derive(Clone, Copy)]

@@ -8,8 +8,8 @@ ghost use Rattle.many_jobs.specs.Telling.{report_text};
 
 use crate::telling::{Telling, push_report};
 use job_reports::{PrinterGroup, Report};
+use judgement::Judgement;
 use named_inputs::system_words::system_words;
-use preflight::Judgement;
 use std::alloc::{AllocError, Allocator};
 use std::io;
 use streams::{Error, Outlet, write_text};

@@ -15,7 +15,7 @@ use Rattle.page_env.specs.declared.mark.Fill.{Fill}
 use Rattle.page_env.specs.declared.mark.Fill.TheVariants.{Solid, Erase, Shade, Hatch}
 use Rattle.page_env.specs.Mark.{Shape, Rectangle, Character, Row, Line, pixels_per_inch}
 use Rattle.page_machine.specs.Event.{Marked}
-use Rattle.preflight.specs.Same.{are_same_bytes, is_same_box, is_same_fill, is_same_shape}
+use Rattle.sinks.specs.Same.{are_same_bytes, is_same_box, is_same_fill, is_same_shape}
 use Rattle.comparison.specs.Nearness.{is_near, is_near_box, is_near_shape}
 use Rattle.comparison.proofs.Sameness.{same_event}
 use Rattle.page_comparison.specs.declared.bag.Matched.{Matched}

@@ -2,7 +2,7 @@
 use Rattle.std.proofs.Common.{◌≡◌, ℕ, false, List, [], ◌∷◌, Decides, refl}
 use Rattle.std.proofs.lemmas.Bool.{false≢true}
 use Rattle.std.proofs.lemmas.Bool.Decides.{Decides-and, Decides-eqb, Decides-like}
-use Rattle.preflight.specs.Same.{are_same_bytes}
+use Rattle.sinks.specs.Same.{are_same_bytes}
 
 never : {P : Type 0} → (P → ⊥) → Decides false P
 never refuted = (λ h. absurd (false≢true h), λ p. absurd (refuted p))

@@ -7,7 +7,7 @@ use Rattle.device_profile.specs.declared.panel.Panel.{Panel}
 use Rattle.device_profile.specs.Printer.{Printer}
 use Rattle.page_env.specs.declared.mark.PageEnd.{PageEnd}
 use Rattle.page_machine.specs.Job.{ItemRun, plain_run}
-use Rattle.preflight.specs.Same.{is_same_end}
+use Rattle.sinks.specs.Same.{is_same_end}
 use Rattle.sinks.specs.Counts.{capped, no_counts}
 use Rattle.sinks.specs.declared.counts.Counts.{Counts}
 use Rattle.verdict.specs.declared.failure.Failure.{Failure}

@@ -5,7 +5,7 @@ ghost use Rattle.std.specs.Prelude.{length, map};
 ghost use Rattle.comparison.specs.Running.{RunsOut, failure_of, is_open};
 ghost use Rattle.device_profile.specs.Printer.{first_panel};
 ghost use Rattle.page_machine.specs.Event.{Marked, Ended};
-ghost use Rattle.preflight.specs.Same.{is_same_end};
+ghost use Rattle.sinks.specs.Same.{is_same_end};
 ghost use Rattle.sinks.specs.Counts.{counted, counts_after};
 ghost use Rattle.page_comparison.specs.Comparison.{
   IsPageComparison,

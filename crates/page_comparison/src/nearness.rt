@@ -4,7 +4,7 @@ ghost use Rattle.std.specs.Prelude.{◌≡◌, ◌↔◌, ◌&&◌, ◌==◌, Is
 ghost use Rattle.std.specs.Ordering.{int_eq};
 ghost use Rattle.device_profile.specs.Faces.{is_same_request};
 ghost use Rattle.page_env.specs.Mark.{pixels_per_inch};
-ghost use Rattle.preflight.specs.Same.{are_same_bytes, is_same_fill};
+ghost use Rattle.sinks.specs.Same.{are_same_bytes, is_same_fill};
 ghost use Rattle.comparison.specs.Nearness.{is_near, is_near_box, is_near_shape};
 ghost use Rattle.sinks.specs.Owned.{row_of_owned, shape_of_owned};
 

@@ -2,7 +2,7 @@
 use Rattle.std.proofs.Common.{◌≡◌, ◌↔◌, ◌∙◌, Bool, true, false, ℕ, List, [], Option, Some, Result, Ok, Err, IfErr, IfOk, ap, refl, subst}
 use Rattle.std.proofs.Common.{if◌then◌else◌, sym}
 use Rattle.job_reports.specs.Groups.{Groups}
-use Rattle.preflight.specs.declared.failing_item.Judgement.{Judgement}
+use Rattle.judgement.specs.declared.failing_item.Judgement.{Judgement}
 use Rattle.preflight.specs.declared.kept_check.KeptCheck.{KeptCheck}
 use Rattle.preflight.specs.declared.kept_check.KeptCheck.TheVariants.{Open, Judged, Stopped}
 use Rattle.preflight.specs.Judgement.{IsAnswer}

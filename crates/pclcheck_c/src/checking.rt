@@ -6,7 +6,7 @@ ghost use Rattle.pclcheck_c.specs.Fleets.{asked};
 
 use crate::fleet::Fleet;
 use foreign_calls::{Told, VerdictRow, Why};
-use preflight::Judgement;
+use judgement::Judgement;
 use std::alloc::Global;
 use streams::Error;
 

@@ -12,8 +12,8 @@ use Rattle.page_env.specs.Places.{cursor_reads, x_on_sheet, y_on_sheet}
 use Rattle.page_env.specs.Settings.{Settings, State, settings_at, state_at}
 use Rattle.page_machine.specs.MachineState.{MachineState}
 use Rattle.page_machine.specs.Still.{StopsStill}
-use Rattle.preflight.specs.declared.failing_item.MissingFont.{MissingFont}
-use Rattle.preflight.specs.declared.failing_item.SheetSpot.{SheetSpot}
+use Rattle.judgement.specs.declared.failing_item.MissingFont.{MissingFont}
+use Rattle.judgement.specs.declared.failing_item.SheetSpot.{SheetSpot}
 use Rattle.renderings.specs.Carriers.PageRendering.{any_panel}
 use Rattle.picture_command.specs.PageSearch.{font_of, font_where, spot_of, spot_where}
 

@@ -19,8 +19,8 @@ use Rattle.page_machine.specs.Run.{Run, Ending, Done, Halts}
 use Rattle.page_machine.specs.Defining.{job_item_run, job_end_run, macros_after}
 use Rattle.page_machine.specs.Job.{with_macros}
 use Rattle.page_machine.specs.Still.{is_one_step}
-use Rattle.preflight.specs.declared.failing_item.MissingFont.{MissingFont}
-use Rattle.preflight.specs.declared.failing_item.SheetSpot.{SheetSpot}
+use Rattle.judgement.specs.declared.failing_item.MissingFont.{MissingFont}
+use Rattle.judgement.specs.declared.failing_item.SheetSpot.{SheetSpot}
 use Rattle.sinks.specs.declared.counts.Counts.{Counts}
 use Rattle.sinks.specs.Counts.{capped, counts_after, no_counts}
 use Rattle.verdict.specs.declared.failure.Failure.{Failure}

@@ -18,17 +18,17 @@ ghost use Rattle.picture_command.specs.PageSearch.{sentence, spot_of, spot_where
 
 use device_profile::{Panel, Profile, nearest_request};
 use job_reports::{PrinterGroup, Report, push_job_sentence, push_named_first};
+use judgement::{FailingItem, Judgement, MissingFont, SheetSpot};
 use line_words::push_named;
 use page_env::{Finding, font_request, known_cursor};
 use page_machine::{Machine, Start, Stop};
 use pcl_items::{Item, LexFault, Place};
-use preflight::{FailingItem, Judgement, MissingFont, SheetSpot, Verdict};
 use renderings::{Outcome, Renderer};
 use requests::{DrawnPages, Selection};
 use sinks::Counts;
 use std::alloc::{AllocError, Allocator};
 use streams::{Error, Outlet};
-use verdict::Failure;
+use verdict::{Failure, Verdict};
 
 /// Whose pages are searched for, and for which printer: names for sentences.
 #[derive(Drop)]

@@ -11,7 +11,7 @@ use Rattle.device_profile.specs.Printer.{Printer, IsAllowed, first_panel, is_val
 use Rattle.device_profile.specs.Values.{are_choices, has_repeat}
 use Rattle.page_env.specs.Settings.{has_choice, watched}
 use Rattle.page_env.specs.Untouched.{is_flagged}
-use Rattle.preflight.specs.Failing.{with_value, IsChosen}
+use Rattle.judgement.specs.Failing.{with_value, IsChosen}
 
 neither : (a b : Bool) → (a || b) ≡ false → a ≡ false
 neither true b h = absurd (false≢true (sym h))

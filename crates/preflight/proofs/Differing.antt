@@ -15,11 +15,11 @@ use Rattle.page_machine.specs.Job.{ItemRun, JobRun, at_end, no_end, ended_item, 
 use Rattle.page_machine.specs.Laws.{IsSet, RunsPlainly}
 use Rattle.page_machine.specs.Pinning.{found_at, finding_of}
 use Rattle.verdict.specs.declared.reason.Reason.TheVariants.{Finding as FindingOfRun, Differs}
-use Rattle.preflight.specs.Same.{are_same}
-use Rattle.preflight.specs.Wrong.{Wrong, wrong, findings_in, differences_in}
-use Rattle.preflight.specs.Verdict.{watched_items}
-use Rattle.preflight.specs.Failing.{GoesThrough, events_before, events_behind}
-use Rattle.preflight.proofs.Same.{events_decide}
+use Rattle.sinks.specs.Same.{are_same}
+use Rattle.judgement.specs.Wrong.{Wrong, wrong, findings_in, differences_in}
+use Rattle.judgement.specs.Verdict.{watched_items}
+use Rattle.judgement.specs.Failing.{GoesThrough, events_before, events_behind}
+use Rattle.sinks.proofs.Same.{events_decide}
 use Rattle.preflight.proofs.Soonest.{IsIn}
 use Rattle.preflight.proofs.RunEnds.{set_of, ends_without}
 

@@ -9,12 +9,12 @@ use Rattle.device_profile.specs.Printer.{Printer, IsAllowed}
 use Rattle.page_env.specs.Settings.{watched}
 use Rattle.page_machine.specs.Job.{ItemRun, plain_run}
 use Rattle.page_machine.specs.Laws.{IsWatchedAlike, RunsPlainly}
-use Rattle.preflight.specs.Same.{are_same}
-use Rattle.preflight.specs.Wrong.{Wrong, findings_in, differences_in, of_each, first_run, first_wrong, soonest}
-use Rattle.preflight.specs.Verdict.{watched_items, runs_of}
-use Rattle.preflight.specs.Failing.{IsNumbered, GoesThrough, events_before, events_behind, SaysDiffers, FailSays}
+use Rattle.sinks.specs.Same.{are_same}
+use Rattle.judgement.specs.Wrong.{Wrong, findings_in, differences_in, of_each, first_run, first_wrong, soonest}
+use Rattle.judgement.specs.Verdict.{watched_items, runs_of}
+use Rattle.judgement.specs.Failing.{IsNumbered, GoesThrough, events_before, events_behind, SaysDiffers, FailSays}
 use Rattle.preflight.proofs.Soonest.{IsIn, in_right, in_front, least}
-use Rattle.preflight.proofs.Same.{same_events}
+use Rattle.sinks.proofs.Same.{same_events}
 use Rattle.preflight.proofs.Differing.{IsDifference, its_difference, comes_through, goes_plainly, same_before, same_there, more_through}
 use Rattle.preflight.proofs.FirstPanels.{same_items}
 use Rattle.preflight.proofs.Side.{same_differences}

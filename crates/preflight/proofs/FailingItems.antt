@@ -12,8 +12,8 @@ use Rattle.verdict.specs.declared.reason.Reason.{Reason}
 use Rattle.verdict.specs.declared.reason.Reason.TheVariants.{Fault, Finding, Differs, Unpinnable}
 use Rattle.verdict.specs.declared.verdict.Verdict.{Verdict}
 use Rattle.verdict.specs.declared.verdict.Verdict.TheVariants.{Fail}
-use Rattle.preflight.specs.declared.failing_item.FailingItem.{FailingItem}
-use Rattle.preflight.specs.FailingItem.{Names, StandsAt, IsTold}
+use Rattle.judgement.specs.declared.failing_item.FailingItem.{FailingItem}
+use Rattle.judgement.specs.FailingItem.{Names, StandsAt, IsTold}
 use Rattle.preflight.specs.Judgement.{IsJudgementOn}
 use Rattle.preflight.specs.Stood.{MachineStood}
 use Rattle.preflight.specs.Where.{IsOnPage, page_with}

@@ -10,9 +10,9 @@ use Rattle.page_machine.specs.Pinning.{finding_of}
 use Rattle.verdict.specs.declared.reason.Reason.{Reason}
 use Rattle.verdict.specs.declared.reason.Reason.TheVariants.{Fault}
 use Rattle.verdict.specs.declared.verdict.Verdict.TheVariants.{Fail}
-use Rattle.preflight.specs.Wrong.{Wrong, findings_in, differences_in, of_each, first_run, first_wrong}
-use Rattle.preflight.specs.Verdict.{watched_items, runs_of, verdict_by, verdict_of}
-use Rattle.preflight.specs.Failing.{events_by_item, FindsNothing, FailSays}
+use Rattle.judgement.specs.Wrong.{Wrong, findings_in, differences_in, of_each, first_run, first_wrong}
+use Rattle.judgement.specs.Verdict.{watched_items, runs_of, verdict_by, verdict_of}
+use Rattle.judgement.specs.Failing.{events_by_item, FindsNothing, FailSays}
 use Rattle.preflight.proofs.Soonest.{soonest_in, in_either}
 use Rattle.preflight.proofs.RunEnds.{set_of, ends_without, no_finding}
 use Rattle.preflight.proofs.FirstPanels.{same_items, plain_items}

@@ -11,10 +11,10 @@ use Rattle.page_machine.specs.Job.{ItemRun, events_of}
 use Rattle.verdict.specs.declared.reason.Reason.{Reason}
 use Rattle.verdict.specs.declared.reason.Reason.TheVariants.{Differs, Fault as FaultOfBytes}
 use Rattle.verdict.specs.declared.verdict.Verdict.TheVariants.{Fail}
-use Rattle.preflight.specs.Same.{are_same}
-use Rattle.preflight.specs.Wrong.{Wrong, wrong, found_or, findings_in, differences_in, of_each, first_run, all_wrong, sooner, soonest}
-use Rattle.preflight.specs.Wrong.{first_wrong}
-use Rattle.preflight.specs.Verdict.{verdict_by, verdict_of, runs_of}
+use Rattle.sinks.specs.Same.{are_same}
+use Rattle.judgement.specs.Wrong.{Wrong, wrong, found_or, findings_in, differences_in, of_each, first_run, all_wrong, sooner, soonest}
+use Rattle.judgement.specs.Wrong.{first_wrong}
+use Rattle.judgement.specs.Verdict.{verdict_by, verdict_of, runs_of}
 
 -- what is wrong in runs is no fault of the bytes
 abbrev IsOfRuns : Reason → Type 0

@@ -8,7 +8,7 @@ use Rattle.pcl_lexer.specs.Reading.{Reading}
 use Rattle.page_env.specs.Settings.{watched}
 use Rattle.page_machine.specs.Job.{JobRun, plain_run, watched_run}
 use Rattle.page_machine.specs.Laws.{IsSet, IsWatchedAlike, RunsPlainly}
-use Rattle.preflight.specs.Verdict.{watched_items}
+use Rattle.judgement.specs.Verdict.{watched_items}
 
 -- a list with an element has its first one
 first_contained : (values : List ℕ) (x : ℕ) → Contains values x → Contains values (slice_index values 0)

@@ -4,9 +4,9 @@ use Rattle.page_env.specs.declared.finding.Finding.{Finding}
 use Rattle.page_machine.specs.Job.{ItemRun}
 use Rattle.page_machine.specs.Pinning.{found_at, finding_of}
 use Rattle.verdict.specs.declared.reason.Reason.TheVariants.{Finding as FindingOfRun}
-use Rattle.preflight.specs.Wrong.{Wrong, found_or, findings_in}
+use Rattle.judgement.specs.Wrong.{Wrong, found_or, findings_in}
 use Rattle.page_machine.specs.Reached.{FindsBehind}
-use Rattle.preflight.specs.Failing.{GoesOn, GoesThrough}
+use Rattle.judgement.specs.Failing.{GoesOn, GoesThrough}
 use Rattle.preflight.proofs.Soonest.{IsIn}
 
 -- it is the finding of this run, which comes behind so many items

@@ -9,9 +9,9 @@ use Rattle.page_env.specs.Settings.{watched}
 use Rattle.page_machine.specs.Event.{Event}
 use Rattle.page_machine.specs.Job.{ItemRun, plain_run, watched_run}
 use Rattle.page_machine.specs.Laws.{IsSet, IsWatchedAlike, RunsPlainly}
-use Rattle.preflight.specs.Wrong.{Wrong, findings_in, differences_in, of_each, first_run, first_wrong}
-use Rattle.preflight.specs.Verdict.{watched_items, runs_of}
-use Rattle.preflight.specs.Failing.{BothGoOn, BothGoThrough, IsNumbered, GoesThrough, events_before, events_behind, SaysUnset, FailSays}
+use Rattle.judgement.specs.Wrong.{Wrong, findings_in, differences_in, of_each, first_run, first_wrong}
+use Rattle.judgement.specs.Verdict.{watched_items, runs_of}
+use Rattle.judgement.specs.Failing.{BothGoOn, BothGoThrough, IsNumbered, GoesThrough, events_before, events_behind, SaysUnset, FailSays}
 use Rattle.preflight.proofs.Soonest.{IsIn, in_left, in_right, least}
 use Rattle.preflight.proofs.Found.{IsItsFinding, its_finding, finding_behind, comes_behind, goes_on}
 use Rattle.preflight.proofs.RunEnds.{halts_there}

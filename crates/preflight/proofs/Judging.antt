@@ -8,12 +8,12 @@ use Rattle.streams.specs.declared.error.Error.TheVariants.{Memory, Read, Write, 
 use Rattle.streams.specs.Pieces.{ByReads, Spell}
 use Rattle.streams.specs.Source.{SourceState}
 use Rattle.preflight.specs.Session.{SessionState, ChecksOn, HasChecked, IsJudged, IsOutOfMemory, page_told}
-use Rattle.preflight.specs.Verdict.{IsExact, VerdictHolds, NeedsEachRead, StaysOpen, WasOpen}
-use Rattle.preflight.specs.FailingItem.{IsTold}
+use Rattle.judgement.specs.Verdict.{IsExact, VerdictHolds, NeedsEachRead, StaysOpen, WasOpen}
+use Rattle.judgement.specs.FailingItem.{IsTold}
 use Rattle.preflight.specs.Stood.{IsCursorOf, IsFontOf, IsOfSession, IsSpotOf, LacksFont}
 use Rattle.preflight.specs.Where.{IsOnPage}
-use Rattle.preflight.specs.declared.failing_item.MissingFont.{MissingFont}
-use Rattle.preflight.specs.declared.failing_item.SheetSpot.{SheetSpot}
+use Rattle.judgement.specs.declared.failing_item.MissingFont.{MissingFont}
+use Rattle.judgement.specs.declared.failing_item.SheetSpot.{SheetSpot}
 use Rattle.streams.specs.Driving.{IsAnswered, IsStopped, StopsBy}
 use Rattle.streams.proofs.Pieces.{known_by}
 use Rattle.streams.proofs.Driving.{never_items as none_of_limits, of_error, of_read, stop_gives}

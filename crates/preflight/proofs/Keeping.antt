@@ -5,7 +5,7 @@ use Rattle.device_profile.specs.Printer.{Printer}
 use Rattle.page_machine.specs.MachineState.{MachineState}
 use Rattle.verdict.specs.declared.verdict.Verdict.{Verdict}
 use Rattle.preflight.specs.declared.check_state.CheckState.TheVariants as states
-use Rattle.preflight.specs.declared.failing_item.Judgement.{Judgement}
+use Rattle.judgement.specs.declared.failing_item.Judgement.{Judgement}
 use Rattle.preflight.specs.declared.kept_check.KeptCheck.{KeptCheck}
 use Rattle.preflight.specs.declared.kept_check.KeptCheck.TheVariants.{Open, Judged, Stopped}
 use Rattle.preflight.specs.Carriers.Checking.{Along, printers_of}

@@ -13,7 +13,7 @@ use Rattle.device_profile.specs.Printer.{Printer}
 use Rattle.page_machine.specs.Laws.{IsWatchedAlike}
 use Rattle.preflight.specs.declared.checking.Checking.{Checking}
 use Rattle.preflight.specs.declared.check_state.CheckState.TheVariants.{Open}
-use Rattle.preflight.specs.FailingItem.{Names}
+use Rattle.judgement.specs.FailingItem.{Names}
 use Rattle.preflight.specs.CheckState.{StandsBy, is_open}
 use Rattle.preflight.specs.Carriers.Lockstep.{Fleet, machines_of, counts_of, Execute, GoesInStep}
 use Rattle.preflight.specs.Carriers.Checking.{ExecutesThrough}

@@ -7,9 +7,9 @@ use Rattle.pcl_lexer.specs.Reading.{Reading}
 use Rattle.device_profile.specs.Printer.{Printer}
 use Rattle.page_machine.specs.Job.{ItemRun}
 use Rattle.verdict.specs.declared.reason.Reason.TheVariants.{Finding as FindingOfRun, Differs}
-use Rattle.preflight.specs.Wrong.{Wrong, findings_in, of_each, first_run, soonest}
-use Rattle.preflight.specs.Verdict.{watched_items, runs_of}
-use Rattle.preflight.specs.Failing.{IsNumbered}
+use Rattle.judgement.specs.Wrong.{Wrong, findings_in, of_each, first_run, soonest}
+use Rattle.judgement.specs.Verdict.{watched_items, runs_of}
+use Rattle.judgement.specs.Failing.{IsNumbered}
 use Rattle.preflight.proofs.Soonest.{IsIn, in_either, in_left, in_right, in_front}
 use Rattle.preflight.proofs.Found.{its_finding}
 

@@ -19,9 +19,9 @@ use Rattle.sinks.specs.Counts.{pages_after}
 use Rattle.verdict.specs.declared.reason.Reason.{Reason}
 use Rattle.verdict.specs.declared.reason.Reason.TheVariants.{Fault as FaultOfBytes, Finding as FindingOfRun, Differs, Unpinnable}
 use Rattle.verdict.specs.declared.verdict.Verdict.TheVariants.{Fail}
-use Rattle.preflight.specs.Verdict.{runs_of}
+use Rattle.judgement.specs.Verdict.{runs_of}
 use Rattle.preflight.specs.Where.{page_behind, DiffersOnPage, FailsOnPage, FindsOnPage, IsOnPage, StopsOnPage, open_page}
-use Rattle.preflight.specs.Wrong.{Wrong, first_wrong, wrong as wrong_at}
+use Rattle.judgement.specs.Wrong.{Wrong, first_wrong, wrong as wrong_at}
 use Rattle.preflight.specs.Carriers.Checking.{Along, HasExecuted}
 use Rattle.preflight.specs.Carriers.Each.{Each}
 use Rattle.preflight.specs.Carriers.Lockstep.{Action, Finds, FindsAt, IsWrong, PagesAt}

@@ -7,8 +7,8 @@ use Rattle.verdict.specs.declared.failure.Failure.{Failure}
 use Rattle.verdict.specs.declared.verdict.Verdict.{Verdict}
 use Rattle.verdict.specs.declared.verdict.Verdict.TheVariants.{Fail}
 use Rattle.verdict.specs.Failing.{failing}
-use Rattle.preflight.specs.Failing.{FailSays}
-use Rattle.preflight.specs.Verdict.{IsExact, VerdictHolds, verdict_of}
+use Rattle.judgement.specs.Failing.{FailSays}
+use Rattle.judgement.specs.Verdict.{IsExact, VerdictHolds, verdict_of}
 
 -- each Fail says what it means
 abbrev pub FailsSay : Type 0

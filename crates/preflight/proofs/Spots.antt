@@ -22,15 +22,15 @@ use Rattle.verdict.specs.declared.reason.Reason.{Reason}
 use Rattle.verdict.specs.declared.reason.Reason.TheVariants.{Fault, Finding, Differs, Unpinnable}
 use Rattle.verdict.specs.declared.verdict.Verdict.{Verdict}
 use Rattle.verdict.specs.declared.verdict.Verdict.TheVariants.{Pass, Fail}
-use Rattle.preflight.specs.declared.failing_item.FailingItem.{FailingItem}
-use Rattle.preflight.specs.declared.failing_item.MissingFont.{MissingFont}
-use Rattle.preflight.specs.declared.failing_item.SheetSpot.{SheetSpot}
+use Rattle.judgement.specs.declared.failing_item.FailingItem.{FailingItem}
+use Rattle.judgement.specs.declared.failing_item.MissingFont.{MissingFont}
+use Rattle.judgement.specs.declared.failing_item.SheetSpot.{SheetSpot}
 use Rattle.preflight.specs.declared.check_state.CheckState.{CheckState}
 use Rattle.preflight.specs.declared.check_state.CheckState.TheVariants.{Open, Judged, Stopped}
 use Rattle.preflight.specs.Carriers.Checking.{Along, HasExecuted}
 use Rattle.preflight.specs.Carriers.Each.{Each}
 use Rattle.preflight.specs.Carriers.Lockstep.{Action, StopsAt, StopsThere, carrying_of}
-use Rattle.preflight.specs.FailingItem.{IsFailingItem, Names}
+use Rattle.judgement.specs.FailingItem.{IsFailingItem, Names}
 use Rattle.preflight.specs.Stood.{HoldsStill, IsAskedOf, IsAt, IsCursorOf, IsFinder, IsOfSession, IsOfStopped, IsFontOf}
 use Rattle.preflight.specs.Stood.{IsSpotOf, IsThere, LacksFont, MachineStood}
 use Rattle.preflight.specs.Stood.{StoodBefore, StoppedAt, run_of_items}

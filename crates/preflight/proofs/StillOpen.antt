@@ -26,7 +26,7 @@ use Rattle.verdict.specs.declared.reason.Reason.TheVariants.{Fault as FaultOfByt
 use Rattle.verdict.specs.declared.verdict.Verdict.{Verdict}
 use Rattle.verdict.specs.declared.verdict.Verdict.TheVariants.{Fail}
 use Rattle.streams.specs.Pieces.{MayBeBy, Spell}
-use Rattle.preflight.specs.Verdict.{IsExact, IsFirst, LeavesOpen, verdict_of}
+use Rattle.judgement.specs.Verdict.{IsExact, IsFirst, LeavesOpen, verdict_of}
 use Rattle.preflight.specs.Carriers.Checking.{HasExecuted}
 use Rattle.preflight.proofs.Answered.{is_all}
 use Rattle.preflight.proofs.Completed.{item_takes}

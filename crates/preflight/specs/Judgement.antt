@@ -3,11 +3,11 @@ use Rattle.std.specs.Prelude.{ℕ, List, Option}
 use Rattle.device_profile.specs.Printer.{Printer}
 use Rattle.page_machine.specs.MachineState.{MachineState}
 use Rattle.verdict.specs.declared.verdict.Verdict.{Verdict}
-use Rattle.preflight.specs.declared.failing_item.FailingItem.{FailingItem}
-use Rattle.preflight.specs.declared.failing_item.Judgement.{Judgement}
-use Rattle.preflight.specs.FailingItem.{IsTold}
+use Rattle.judgement.specs.declared.failing_item.FailingItem.{FailingItem}
+use Rattle.judgement.specs.declared.failing_item.Judgement.{Judgement}
+use Rattle.judgement.specs.FailingItem.{IsTold}
 use Rattle.preflight.specs.Stood.{IsCursorOf, IsFontOf, MachineStood}
-use Rattle.preflight.specs.Verdict.{IsExact, VerdictHolds}
+use Rattle.judgement.specs.Verdict.{IsExact, VerdictHolds}
 use Rattle.preflight.specs.Where.{IsOnPage}
 
 -- the verdict is right; the item that the job fails at and the page are told; and the machine of a finding stands where

@@ -11,7 +11,7 @@ use Rattle.streams.specs.declared.error.Error.{Error}
 use Rattle.streams.specs.declared.error.Error.TheVariants.{Memory}
 use Rattle.verdict.specs.declared.verdict.Verdict.{Verdict}
 use Rattle.streams.specs.Pieces.{MayBeBy}
-use Rattle.preflight.specs.declared.failing_item.FailingItem.{FailingItem}
+use Rattle.judgement.specs.declared.failing_item.FailingItem.{FailingItem}
 use Rattle.preflight.specs.Judgement.{IsJudgementOn}
 use Rattle.preflight.specs.Where.{page_with}
 use Rattle.preflight.specs.Carriers.Checking.{HasExecuted}

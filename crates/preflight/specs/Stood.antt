@@ -16,13 +16,13 @@ use Rattle.page_machine.specs.Still.{is_one_step}
 use Rattle.verdict.specs.declared.reason.Reason.TheVariants.{Fault, Finding, Differs, Unpinnable}
 use Rattle.verdict.specs.declared.verdict.Verdict.{Verdict}
 use Rattle.verdict.specs.declared.verdict.Verdict.TheVariants.{Pass, Fail}
-use Rattle.preflight.specs.declared.failing_item.FailingItem.{FailingItem}
-use Rattle.preflight.specs.declared.failing_item.MissingFont.{MissingFont}
-use Rattle.preflight.specs.declared.failing_item.SheetSpot.{SheetSpot}
+use Rattle.judgement.specs.declared.failing_item.FailingItem.{FailingItem}
+use Rattle.judgement.specs.declared.failing_item.MissingFont.{MissingFont}
+use Rattle.judgement.specs.declared.failing_item.SheetSpot.{SheetSpot}
 use Rattle.preflight.specs.declared.check_state.CheckState.{CheckState}
 use Rattle.preflight.specs.declared.check_state.CheckState.TheVariants.{Open, Judged, Stopped}
-use Rattle.preflight.specs.FailingItem.{IsFailingItem}
-use Rattle.preflight.specs.Failing.{IsNumbered}
+use Rattle.judgement.specs.FailingItem.{IsFailingItem}
+use Rattle.judgement.specs.Failing.{IsNumbered}
 
 -- ---- what is told
 

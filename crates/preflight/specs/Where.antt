@@ -13,9 +13,9 @@ use Rattle.verdict.specs.declared.reason.Reason.{Reason}
 use Rattle.verdict.specs.declared.reason.Reason.TheVariants.{Fault, Finding, Differs, Unpinnable}
 use Rattle.verdict.specs.declared.verdict.Verdict.{Verdict}
 use Rattle.verdict.specs.declared.verdict.Verdict.TheVariants.{Pass, Fail}
-use Rattle.preflight.specs.Failing.{IsNumbered}
-use Rattle.preflight.specs.Verdict.{runs_of}
-use Rattle.preflight.specs.Wrong.{Wrong, first_wrong}
+use Rattle.judgement.specs.Failing.{IsNumbered}
+use Rattle.judgement.specs.Verdict.{runs_of}
+use Rattle.judgement.specs.Wrong.{Wrong, first_wrong}
 
 -- the page that is open behind these events: 1, and one for each page that ended
 abbrev pub page_behind : List Event → ℕ

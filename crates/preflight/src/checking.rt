@@ -8,9 +8,9 @@ ghost use Rattle.preflight.specs.CheckState.{Ends};
 ghost use Rattle.preflight.specs.Where.{page_with};
 
 use crate::check_state::CheckState;
-use crate::failing_item::FailingItem;
 use crate::laws::fails_say;
 use crate::lockstep::Lockstep;
+use judgement::FailingItem;
 use page_machine::{
     ended_pages_are_whole, marks_are_inside, peaks_are_within, watched_is_plain,
     watched_runs_are_alike,

@@ -13,13 +13,13 @@ ghost use Rattle.preflight.specs.Carriers.FormsInStep.{FirstForms, FirstKeeps, F
 ghost use Rattle.preflight.specs.Carriers.Lockstep.{machines_of, counts_of, Execute, AreRunning};
 ghost use Rattle.preflight.specs.Carriers.Lockstep.{AllAdmit, GoesAlike, GoesInStep};
 ghost use Rattle.preflight.specs.Carriers.TextInStep.{PrintInStep};
-ghost use Rattle.preflight.specs.FailingItem.{Names};
+ghost use Rattle.judgement.specs.FailingItem.{Names};
 ghost use Rattle.preflight.specs.CheckState.{StandsBy, is_open};
 ghost use Rattle.preflight.specs.declared.check_state.CheckState.TheVariants.{Open};
 
 use crate::check_state::CheckState;
-use crate::failing_item::FailingItem;
 use crate::lockstep::{FleetMode, Lockstep};
+use judgement::FailingItem;
 use page_env::{FormBounds, TextMeasure, is_of_forms, items_go_on_like_printers};
 use page_machine::items_run_on_like_printers;
 use pcl_items::{Command, Number, SimpleItem};

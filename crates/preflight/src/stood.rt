@@ -5,9 +5,9 @@ ghost use Rattle.std.specs.Prelude.{◌≡◌, IfSome};
 ghost use Rattle.preflight.specs.Carriers.Lockstep.{machines_of};
 ghost use Rattle.preflight.specs.Stood.{LacksFont, IsFinder, IsOfStopped, IsSpotOf, StoppedAt};
 
-use crate::failing_item::{FailingItem, MissingFont, SheetSpot};
 use crate::lockstep::Lockstep;
 use device_profile::nearest_request;
+use judgement::{FailingItem, MissingFont, SheetSpot};
 use page_env::{Finding, font_request, known_cursor};
 use page_machine::Machine;
 use std::alloc::Allocator;

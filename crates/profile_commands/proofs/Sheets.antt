@@ -10,7 +10,7 @@ use Rattle.requests.specs.declared.status.Status.TheVariants.{Overwrites}
 use Rattle.requests.specs.declared.status.Trouble.{Trouble}
 use Rattle.test_sheet.specs.Sheet.{sheet}
 use Rattle.device_profile.specs.Printer.{Printer}
-use Rattle.preflight.specs.Verdict.{IsExact, VerdictHolds}
+use Rattle.judgement.specs.Verdict.{IsExact, VerdictHolds}
 use Rattle.profile_commands.specs.ProfileSheet.{FailsBy, IsEndOfCheck, LeavesSheet, LeavesSheetOf, Passes}
 use Rattle.verdict.specs.declared.failure.Failure.{Failure}
 use Rattle.verdict.specs.declared.verdict.Verdict.{Verdict}

@@ -3,7 +3,7 @@ use Rattle.std.specs.Prelude.{◌≡◌, ◌⊎◌, ◌∷◌, [], ℕ, List, Bo
 use Rattle.device_profile.specs.Name.{printer_name}
 use Rattle.device_profile.specs.Printer.{Printer}
 use Rattle.streams.specs.declared.error.Error.TheVariants.{Memory, Read, Write, Turns}
-use Rattle.preflight.specs.Verdict.{IsExact, VerdictHolds}
+use Rattle.judgement.specs.Verdict.{IsExact, VerdictHolds}
 use Rattle.shown_bytes.specs.Shown.{shown}
 use Rattle.profile_commands.specs.ProfileReading.{IsRead, IsTextOf, TellsWhyNone}
 use Rattle.profile_commands.specs.WholeText.{WritesWhole}

@@ -22,8 +22,8 @@ use Rattle.page_machine.specs.Job.{events_of}
 use Rattle.verdict.specs.declared.verdict.Verdict.TheVariants.{Pass}
 use Rattle.streams.specs.Pieces.{ByReads, HasEnd}
 use Rattle.streams.specs.Source.{SourceState}
-use Rattle.preflight.specs.Wrong.{Wrong, first_run, first_wrong}
-use Rattle.preflight.specs.Verdict.{IsExact, verdict_by, verdict_of, runs_of}
+use Rattle.judgement.specs.Wrong.{Wrong, first_run, first_wrong}
+use Rattle.judgement.specs.Verdict.{IsExact, verdict_by, verdict_of, runs_of}
 use Rattle.streams.proofs.Pieces.{ended_or_open}
 use Rattle.preflight.proofs.StillOpen.{byte_0, behind_whole}
 

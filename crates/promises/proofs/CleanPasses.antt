@@ -17,11 +17,11 @@ use Rattle.page_machine.specs.Run.{Done, Halts}
 use Rattle.page_machine.specs.Pinning.{finding_of}
 use Rattle.verdict.specs.declared.reason.Reason.TheVariants.{Differs}
 use Rattle.verdict.specs.Failing.{IsPass}
-use Rattle.preflight.specs.Wrong.{Wrong, wrong, findings_in, differences_in, of_each, first_run, first_wrong, soonest}
-use Rattle.preflight.specs.Verdict.{watched_items, runs_of, verdict_by, verdict_of}
-use Rattle.preflight.specs.Failing.{events_by_item}
+use Rattle.judgement.specs.Wrong.{Wrong, wrong, findings_in, differences_in, of_each, first_run, first_wrong, soonest}
+use Rattle.judgement.specs.Verdict.{watched_items, runs_of, verdict_by, verdict_of}
+use Rattle.judgement.specs.Failing.{events_by_item}
 use Rattle.promises.specs.Clean.{IsClean, LeavesNothing, AreClean, PassesWhereClean}
-use Rattle.preflight.proofs.Same.{same_events}
+use Rattle.sinks.proofs.Same.{same_events}
 use Rattle.preflight.proofs.Side.{Agreed, agreed_findings}
 use Rattle.preflight.proofs.Passing.{all_contained}
 use Rattle.preflight.proofs.Parts.{AreOne, are_one}

@@ -8,3 +8,4 @@ mod PinnedReading
 mod PinnedVerdicts
 mod ClosingsFacts
 mod StartedRastersFacts
+mod Comparisons

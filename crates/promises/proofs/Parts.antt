@@ -7,8 +7,8 @@ use Rattle.device_profile.specs.Printer.{Printer}
 use Rattle.page_machine.specs.Event.{Event}
 use Rattle.page_machine.specs.Job.{ItemRun, events_of}
 use Rattle.verdict.specs.declared.verdict.Verdict.TheVariants.{Pass}
-use Rattle.preflight.specs.Wrong.{Wrong, first_run, first_wrong}
-use Rattle.preflight.specs.Verdict.{watched_items, runs_of, verdict_by, verdict_of}
+use Rattle.judgement.specs.Wrong.{Wrong, first_run, first_wrong}
+use Rattle.judgement.specs.Verdict.{watched_items, runs_of, verdict_by, verdict_of}
 use Rattle.preflight.proofs.Side.{alike_runs}
 use Rattle.preflight.proofs.Passing.{all_contained}
 use Rattle.preflight.proofs.Parts.{AreOne, are_one}

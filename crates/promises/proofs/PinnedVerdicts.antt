@@ -8,9 +8,9 @@ use Rattle.page_machine.specs.Pinning.{found_at, finding_of, IsSameOutcome}
 use Rattle.verdict.specs.declared.reason.Reason.TheVariants.{Differs, Finding as FindingOfRun}
 use Rattle.verdict.specs.declared.verdict.Verdict.{Verdict}
 use Rattle.verdict.specs.declared.verdict.Verdict.TheVariants.{Fail}
-use Rattle.preflight.specs.Verdict.{verdict_by}
-use Rattle.preflight.specs.Wrong.{Wrong, wrong, found_or, findings_in, differences_in, soonest, first_wrong}
-use Rattle.preflight.proofs.Same.{same_events}
+use Rattle.judgement.specs.Verdict.{verdict_by}
+use Rattle.judgement.specs.Wrong.{Wrong, wrong, found_or, findings_in, differences_in, soonest, first_wrong}
+use Rattle.sinks.proofs.Same.{same_events}
 
 -- a run does not differ from itself
 no_difference : (profile count_before : ℕ) (items : List ItemRun) → differences_in items profile count_before items ≡ []

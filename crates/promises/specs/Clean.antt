@@ -12,8 +12,8 @@ use Rattle.page_machine.specs.Run.{Done}
 use Rattle.page_machine.specs.Job.{events_of, plain_run}
 use Rattle.page_machine.specs.Pages.{PrintedPage, pages}
 use Rattle.verdict.specs.Failing.{IsPass}
-use Rattle.preflight.specs.Failing.{events_by_item}
-use Rattle.preflight.specs.Verdict.{verdict_of}
+use Rattle.judgement.specs.Failing.{events_by_item}
+use Rattle.judgement.specs.Verdict.{verdict_of}
 
 -- from this panel a job of these items runs clean on a printer: the plain run comes to its end, and prints these pages
 pub record IsClean (printer : Printer) (panel : Panel) (items : List Placed) (place : ℕ)

@@ -12,8 +12,8 @@ use Rattle.page_machine.specs.Pinning.{pinned_reading, moved_reading, placed_fro
 use Rattle.page_machine.specs.Pinning.{IsSameOutcome}
 use Rattle.verdict.specs.declared.verdict.Verdict.TheVariants.{Pass}
 use Rattle.renderings.specs.Texts.{plain_text}
-use Rattle.preflight.specs.Verdict.{verdict_by, verdict_of}
-use Rattle.preflight.specs.Wrong.{first_wrong}
+use Rattle.judgement.specs.Verdict.{verdict_by, verdict_of}
+use Rattle.judgement.specs.Wrong.{first_wrong}
 
 -- What a fleet passes, each part of it passes alike: printers of the fleet, at least one, in any order.
 abbrev pub PartPasses : List Printer → List Printer → Reading → Type 0

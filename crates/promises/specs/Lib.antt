@@ -2,3 +2,4 @@ pub mod Clean
 pub mod Laws
 pub mod Closings
 pub mod StartedRasters
+pub mod Comparisons

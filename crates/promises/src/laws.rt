@@ -18,6 +18,7 @@ ghost use Rattle.page_machine.specs.Job.{plain_run};
 ghost use Rattle.page_machine.specs.Laws.{IsSet};
 ghost use Rattle.page_machine.specs.Macros.{MacroContext};
 ghost use Rattle.page_machine.specs.Run.{Conditions};
+ghost use Rattle.promises.specs.Comparisons.{SaysSameForAll};
 ghost use Rattle.promises.specs.Closings.{ClosesInOrder, FixesInOrder};
 ghost use Rattle.promises.specs.Laws.{HasOneRun, HaveOnePlainText, IsPinned, IsReadAgain};
 ghost use Rattle.promises.specs.Laws.{PartPasses, RunAlike};
@@ -26,7 +27,7 @@ ghost use Rattle.renderings.specs.Pins.{pinned_rendering};
 ghost use Rattle.streams.specs.Pieces.{ByReads, HasEnd};
 ghost use Rattle.streams.specs.Source.{SourceState};
 ghost use Rattle.promises.specs.Clean.{PassesWhereClean};
-ghost use Rattle.preflight.specs.Verdict.{IsExact, verdict_of};
+ghost use Rattle.judgement.specs.Verdict.{IsExact, verdict_of};
 
 use page_machine::{pinned_jobs_print_alike, unset_is_read, watched_is_plain};
 use pcl_lexer::one_reading;
@@ -129,3 +130,12 @@ pub fn closings_are_in_order()
 pub fn started_rasters_have_places()
     ensures { (printer : Printer) (defaults : Settings) → RastersHavePlaces printer defaults }
 {}
+
+/// Two jobs that a check passes, and that print the same on one printer of its fleet from one
+/// panel, do so on every one from every panel.
+pub fn same_for_all()
+    ensures { (fleet : List Printer) (before after : List ℕ) →
+        SaysSameForAll fleet before after }
+{
+    one_reading();
+}

@@ -1,2 +1,4 @@
 pub mod Recording
 mod Counting
+pub mod Same
+pub mod TextLines

@@ -2,7 +2,7 @@
 ghost use Rattle.std.specs.Prelude.{◌≡◌, ◌≢◌, ◌+◌, ◌^◌, [], ◌||◌, length, map, IfOk, IfErr};
 ghost use Rattle.std.specs.Prelude.{IsErrOf, IsFalse, IsTrue};
 ghost use Rattle.streams.specs.Errors.{is_err_of_read, is_err_of_write};
-ghost use Rattle.preflight.specs.Verdict.{IsExact, VerdictHolds};
+ghost use Rattle.judgement.specs.Verdict.{IsExact, VerdictHolds};
 ghost use Rattle.streams.specs.Outlet.{Adds};
 ghost use Rattle.subcommands.specs.Check.{texts_by, IsRightFor, Leaves, LeavesAtStop};
 ghost use Rattle.job_reports.specs.Right.{IsRightVerdict};
@@ -14,10 +14,11 @@ ghost use Rattle.requests.specs.Status.{is_refusal, is_stop_of_read, is_stop_of_
 use device_profile::Profile;
 use job_reports::line_of;
 use named_inputs::{ProfileTexts, read_fleet};
-use preflight::{Verdict, check_job};
+use preflight::check_job;
 use requests::Status;
 use std::alloc::Allocator;
 use streams::{Error, Latched, Outlet, Source, write_text};
+use verdict::Verdict;
 
 /// The command `check`: one line on standard output, by the verdict on the job for the printers
 /// that the words PROFILE name. Each profile is read and judged before the next one, and the job

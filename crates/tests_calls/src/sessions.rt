@@ -3,7 +3,8 @@
 ghost use Rattle.std.specs.Prelude.{◌<◌};
 
 use device_profile::{Profile, Sample};
-use preflight::{Judgement, Session, check_job_telling};
+use judgement::Judgement;
+use preflight::{Session, check_job_telling};
 use renderings::{Outcome, list_job};
 use std::alloc::{AllocError, Global};
 use std::process::Abort;

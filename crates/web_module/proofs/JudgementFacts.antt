@@ -4,7 +4,7 @@ use Rattle.foreign_calls.specs.declared.why.Why.{Why}
 use Rattle.foreign_calls.specs.Answers.{IsStop}
 use Rattle.job_reports.specs.Groups.{Groups, reported}
 use Rattle.job_reports.specs.JobSentences.{job_sentence}
-use Rattle.preflight.specs.declared.failing_item.Judgement.{Judgement}
+use Rattle.judgement.specs.declared.failing_item.Judgement.{Judgement}
 use Rattle.preflight.specs.Judgement.{IsAnswer}
 use Rattle.web_module.specs.Judgements.{IsJudgedOf, IsSaidOf, IsUnjudgedOf, Judged, judgement_row}
 use Rattle.web_module.specs.Printers.{Fleet, IsFleetOf, group_of}

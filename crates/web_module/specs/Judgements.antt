@@ -8,9 +8,9 @@ use Rattle.job_reports.specs.declared.kind.Kind.TheVariants.{Unchecked, Wrong, P
 use Rattle.job_reports.specs.Groups.{Groups, reported}
 use Rattle.job_reports.specs.JobSentences.{job_sentence}
 use Rattle.job_reports.specs.Kinds.{kind_of}
-use Rattle.preflight.specs.declared.failing_item.FailingItem.{FailingItem}
-use Rattle.preflight.specs.declared.failing_item.Judgement.{Judgement}
-use Rattle.preflight.specs.declared.failing_item.SheetSpot.{SheetSpot}
+use Rattle.judgement.specs.declared.failing_item.FailingItem.{FailingItem}
+use Rattle.judgement.specs.declared.failing_item.Judgement.{Judgement}
+use Rattle.judgement.specs.declared.failing_item.SheetSpot.{SheetSpot}
 use Rattle.preflight.specs.Judgement.{IsAnswer}
 use Rattle.verdict.specs.declared.verdict.Verdict.{Verdict}
 use Rattle.verdict.specs.declared.verdict.Verdict.TheVariants.{Pass, Fail}

@@ -11,7 +11,7 @@ use crate::printers::Printers;
 use crate::rows::{JudgementRow, judgement_row};
 use foreign_calls::{Refusal, Why, judge, put, sentence};
 use job_reports::PrinterGroup;
-use preflight::Judgement;
+use judgement::Judgement;
 use std::alloc::Allocator;
 use std::marker::Model;
 

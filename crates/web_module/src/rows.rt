@@ -5,7 +5,8 @@ ghost use Rattle.web_module.specs.Judgements.{told_kind};
 
 use foreign_calls::verdict_row;
 use job_reports::{Kind, kind_of};
-use preflight::{FailingItem, Judgement, SheetSpot, Verdict};
+use judgement::{FailingItem, Judgement, SheetSpot};
+use verdict::Verdict;
 
 /// What came of a check, and where.
 #[repr(C)]

@@ -1,5 +1,5 @@
 use Rattle.std.proofs.lemmas.Bool.Decides.{same_from_decides}
-use Rattle.preflight.specs.Same.{is_same_event}
+use Rattle.sinks.specs.Same.{is_same_event}
 use Rattle.sinks.specs.Owned.{event_of}
 use Rattle.comparison.proofs.Sameness.{event_decides}
 use Rattle.comparison.proofs.events.is_same.Goals as goal

@@ -2,7 +2,7 @@ use Rattle.std.proofs.Common.{◌≡◌, ◌≤◌, ap, arith, sym, subst, take,
 use Rattle.std.proofs.lemmas.List.{length-take-le, take-take}
 use Rattle.page_env.specs.TextLines.{glyph_count, place_behind}
 use Rattle.page_env.specs.TextMeasure.{AllHaveRoom}
-use Rattle.preflight.proofs.TextInStep.{fewer_have_room}
+use Rattle.sinks.proofs.TextLines.{fewer_have_room}
 use Rattle.comparison.proofs.SameLines.{front_is_same}
 use Rattle.comparison.proofs.texts.lines_of_both.Goals as goal
 

@@ -1,6 +1,6 @@
 use Rattle.std.proofs.Common.{arith}
 use Rattle.std.proofs.lemmas.List.{length-take-le}
-use Rattle.preflight.proofs.TextInStep.{lines_of_more}
+use Rattle.sinks.proofs.TextLines.{lines_of_more}
 use Rattle.comparison.proofs.texts.lines_up_to.Goals as goal
 
 pub returns-clause-lines : goal.returns-clause-lines

@@ -4,7 +4,7 @@ use Rattle.comparison.specs.Running.{RunState}
 use Rattle.comparison.specs.Texts.{GoNext, codes_ahead}
 use Rattle.comparison.proofs.Following.{lacks_tells}
 use Rattle.comparison.proofs.SameLines.{go_next}
-use Rattle.preflight.proofs.TextInStep.{same_place}
+use Rattle.sinks.proofs.TextLines.{same_place}
 use Rattle.comparison.proofs.texts.same_lines.Goals as goal
 
 pub returns : goal.returns

@@ -1,5 +1,5 @@
 use Rattle.std.proofs.Common.{IfOk, Result, subst, sym}
-use Rattle.preflight.specs.declared.failing_item.Judgement.{Judgement}
+use Rattle.judgement.specs.declared.failing_item.Judgement.{Judgement}
 use Rattle.streams.specs.declared.error.Error.{Error}
 use Rattle.foreign_calls.specs.Checked.{IsTextOf}
 use Rattle.foreign_calls.proofs.Known.{text_by}

@@ -1,5 +1,5 @@
 use Rattle.std.proofs.lemmas.Bool.Decides.{same_from_decides}
-use Rattle.preflight.specs.Same.{are_same_bytes}
+use Rattle.sinks.specs.Same.{are_same_bytes}
 use Rattle.page_comparison.proofs.Near.{bytes_decide}
 use Rattle.page_comparison.proofs.nearness.are_same_bytes.Goals as goal
 

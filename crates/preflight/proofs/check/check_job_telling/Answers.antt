@@ -1,12 +1,12 @@
 use Rattle.std.proofs.Common.{◌≡◌, Result, Ok, Err, refl, ap, inl, inr, subst, sym}
 use Rattle.std.proofs.lemmas.Result.{err_from_is_err_and}
 use Rattle.streams.specs.Pieces.{ByReads}
-use Rattle.preflight.specs.declared.failing_item.Judgement.{Judgement}
+use Rattle.judgement.specs.declared.failing_item.Judgement.{Judgement}
 use Rattle.streams.specs.declared.error.Error.{Error}
 use Rattle.streams.specs.declared.error.Error.TheVariants.{Memory, Read, Turns}
-use Rattle.preflight.specs.FailingItem.{IsTold}
+use Rattle.judgement.specs.FailingItem.{IsTold}
 use Rattle.preflight.specs.Where.{IsOnPage}
-use Rattle.preflight.specs.Verdict.{IsExact, VerdictHolds}
+use Rattle.judgement.specs.Verdict.{IsExact, VerdictHolds}
 use Rattle.preflight.proofs.Judging.{asked, exact, headline, known_ok, needed, never_items, never_write, paged, placed, still_open, told}
 use Rattle.preflight.proofs.Judging.{was_open}
 use Rattle.preflight.proofs.check.check_job_telling.Goals as goal

@@ -1,7 +1,8 @@
 use Rattle.std.proofs.Common.{◌≤◌, take, sym, ◌∙◌, subst, arith}
 use Rattle.std.proofs.lemmas.List.{length-take-le}
 use Rattle.page_machine.specs.TextLines.{IsMeasuredAt}
-use Rattle.preflight.proofs.TextInStep.{fewer_have_room, measured_goes, more_go, same_place}
+use Rattle.sinks.proofs.TextLines.{fewer_have_room, same_place}
+use Rattle.preflight.proofs.TextInStep.{measured_goes, more_go}
 use Rattle.preflight.proofs.lockstep.count_on_others.Goals as goal
 
 pub alike-requires : goal.alike-requires

@@ -1,7 +1,8 @@
 use Rattle.std.proofs.Common.{◌≡◌, ◌≤◌, ◌∙◌, ap, subst, take, arith}
 use Rattle.std.proofs.lemmas.List.{length-take-le, take-take}
 use Rattle.preflight.specs.Carriers.TextInStep.{GoOnAll}
-use Rattle.preflight.proofs.TextInStep.{fewer_go, lines_of_more}
+use Rattle.sinks.proofs.TextLines.{lines_of_more}
+use Rattle.preflight.proofs.TextInStep.{fewer_go}
 use Rattle.preflight.proofs.lockstep.lines_on_all.Goals as goal
 
 pub returns-clause-lines : goal.returns-clause-lines

@@ -3,7 +3,7 @@ use Rattle.std.proofs.lemmas.Option.{IfSome_then}
 use Rattle.pcl_items.specs.Items.{Entry}
 use Rattle.page_machine.specs.Still.{is_one_step}
 use Rattle.preflight.specs.Carriers.Lockstep.{machines_of}
-use Rattle.preflight.specs.FailingItem.{IsFailingItem}
+use Rattle.judgement.specs.FailingItem.{IsFailingItem}
 use Rattle.preflight.proofs.Spots.{stopped_is}
 use Rattle.preflight.proofs.stood.stopped.Goals as goal
 

@@ -3,7 +3,7 @@ use Rattle.pcl_lexer.specs.Lexing.Passing.{ahead_of}
 use Rattle.page_env.specs.declared.text_lines.TextAppearance.{TextAppearance}
 use Rattle.page_env.specs.declared.text_lines.TextPlace.{TextPlace}
 use Rattle.page_machine.specs.TextLines.{PrintsLines}
-use Rattle.preflight.proofs.TextInStep.{lines_of}
+use Rattle.sinks.proofs.TextLines.{lines_of}
 use Rattle.sinks.specs.Recorder.{Recorded}
 use Rattle.comparison.specs.Running.{HasRun, RunState, is_open, work}
 use Rattle.comparison.specs.Texts.{GoNext, codes_ahead, text_made}

@@ -17,7 +17,8 @@ use Rattle.preflight.specs.Carriers.FleetMode.{IsFormed, others_in}
 use Rattle.preflight.specs.Carriers.Lockstep.{AreIn, AreRunning, Fleet}
 use Rattle.preflight.specs.Carriers.TextInStep.{GoOnAll, PrintInStep}
 use Rattle.preflight.proofs.Executing.{written_back}
-use Rattle.preflight.proofs.TextInStep.{all_in_pcl, all_print, lines_of, print_in_step, shape_count, shapes_of, stay_formed}
+use Rattle.sinks.proofs.TextLines.{lines_of, shape_count, shapes_of}
+use Rattle.preflight.proofs.TextInStep.{all_in_pcl, all_print, print_in_step, stay_formed}
 use Rattle.preflight.proofs.lockstep.Lockstep.execute_lines.Given.{Over}
 use Rattle.preflight.proofs.lockstep.Lockstep.execute_lines.Goals.{After-add_marks, in-Apart, in_default-fleet_mode, in-Apart-fleet_mode}
 use Rattle.preflight.proofs.lockstep.Lockstep.execute_lines.Goals.{in_default-fleet_mode-2}

@@ -14,7 +14,8 @@ use Rattle.preflight.specs.Carriers.FormsInStep.{FirstKeeps, FirstMeasures}
 use Rattle.preflight.specs.Carriers.Lockstep.{AreIn, AreRunning, Fleet}
 use Rattle.preflight.specs.Carriers.TextInStep.{PrintInStep}
 use Rattle.preflight.proofs.FormsInStep.{keeps_self, not_apart, prints_keep}
-use Rattle.preflight.proofs.TextInStep.{all_in_pcl, all_print, lines_of, print_in_step, shape_count, shapes_of, stay_formed}
+use Rattle.sinks.proofs.TextLines.{lines_of, shape_count, shapes_of}
+use Rattle.preflight.proofs.TextInStep.{all_in_pcl, all_print, print_in_step, stay_formed}
 use Rattle.preflight.proofs.lockstep.Lockstep.execute_measured.Given.{Over}
 use Rattle.preflight.proofs.lockstep.Lockstep.execute_measured.Goals.{After-add_marks}
 use Rattle.preflight.proofs.lockstep.Lockstep.execute_measured.Goals as goal

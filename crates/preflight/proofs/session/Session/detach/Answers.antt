@@ -1,7 +1,7 @@
 use Rattle.std.proofs.Common.{◌≡◌, ◌∙◌, Option, ap, subst, sym}
 use Rattle.preflight.specs.declared.check_state.CheckState.{CheckState}
 use Rattle.preflight.specs.declared.check_state.CheckState.TheVariants.{Open}
-use Rattle.preflight.specs.declared.failing_item.FailingItem.{FailingItem}
+use Rattle.judgement.specs.declared.failing_item.FailingItem.{FailingItem}
 use Rattle.preflight.specs.Carriers.Detached.{IsLeftOf, IsUnderWay, session_with}
 use Rattle.preflight.specs.Session.{SessionState}
 use Rattle.preflight.proofs.Attaching.{session_left}

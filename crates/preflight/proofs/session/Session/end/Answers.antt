@@ -4,7 +4,7 @@ use Rattle.device_profile.specs.Printer.{Printer}
 use Rattle.preflight.specs.Session.{HasChecked}
 use Rattle.preflight.specs.Judgement.{IsJudgementOn}
 use Rattle.preflight.specs.Where.{page_with}
-use Rattle.preflight.specs.Verdict.{IsExact, VerdictHolds}
+use Rattle.judgement.specs.Verdict.{IsExact, VerdictHolds}
 use Rattle.preflight.proofs.session.Session.end.Goals as goal
 
 pub returns-clause-exact : goal.returns-clause-exact

@@ -1,6 +1,6 @@
 use Rattle.std.proofs.Common.{ap, sym, ◌∙◌}
 use Rattle.page_machine.specs.Still.{is_one_step}
-use Rattle.preflight.proofs.failing_item.FailingItem.is_one_step.Goals as goal
+use Rattle.judgement.proofs.failing_item.FailingItem.is_one_step.Goals as goal
 
 pub returns-in-Text : goal.returns-in-Text
 returns-in-Text c = λ item is. ap is_one_step (rw c.in-Text.is at is)

@@ -1,15 +1,13 @@
-//! The item that a job fails at, and where.
+//! The item that a job fails at, and where, beside a verdict.
 
 ghost use Rattle.std.specs.Prelude.{◌≡◌, ℕ, List};
 ghost use Rattle.pcl_items.specs.Items.{Entry, WithData, simple_view, view};
 ghost use Rattle.page_machine.specs.Still.{is_one_step, may_close};
-ghost use Rattle.preflight.specs.FailingItem.{IsFailingItem, Names};
-ghost use Rattle.preflight.specs.Where.{page_with};
+ghost use Rattle.judgement.specs.FailingItem.{IsFailingItem};
 
 use device_profile::FontRequest;
 use page_env::SheetPlace;
 use pcl_items::{Command, DataCommand, Item, SimpleItem};
-use sinks::Counts;
 use verdict::Verdict;
 
 /// The item that a job fails at, without its data.
@@ -147,23 +145,4 @@ fn is_step(item: &SimpleItem) -> bool
         | SimpleItem::Initialize
         | SimpleItem::Set(_, _) => true,
     }
-}
-
-/// The page that is told with a verdict, where so much was counted.
-pub(crate) fn page_with(verdict: Verdict, counts: Counts) -> Option<u64>
-    ensures { result ≡ page_with verdict counts }
-{
-    match verdict {
-        Verdict::Pass { .. } => None,
-        Verdict::Fail { .. } => Some(counts.pages.saturating_add(1)),
-    }
-}
-
-/// Tells the item.
-// A call of its own, so that the items that go on clear no room for what is told.
-#[inline(never)]
-pub(crate) fn tell(item: &Item<'_>, failing_item: &mut Option<FailingItem>)
-    ensures { Names failing_item.new (view item.now) }
-{
-    *failing_item = Some(FailingItem::of(item));
 }

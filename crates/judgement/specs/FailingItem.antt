@@ -8,8 +8,8 @@ use Rattle.pcl_lexer.specs.Reading.{Reading, IsReading, items_of}
 use Rattle.verdict.specs.declared.reason.Reason.TheVariants.{Fault, Finding, Differs, Unpinnable}
 use Rattle.verdict.specs.declared.verdict.Verdict.{Verdict}
 use Rattle.verdict.specs.declared.verdict.Verdict.TheVariants.{Pass, Fail}
-use Rattle.preflight.specs.declared.failing_item.FailingItem.{FailingItem}
-use Rattle.preflight.specs.declared.failing_item.FailingItem.TheVariants as failing_items
+use Rattle.judgement.specs.declared.failing_item.FailingItem.{FailingItem}
+use Rattle.judgement.specs.declared.failing_item.FailingItem.TheVariants as failing_items
 
 -- the item is this one, but for its data
 abbrev pub IsFailingItem : FailingItem → Entry → Type 0

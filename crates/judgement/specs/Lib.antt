@@ -1,0 +1,4 @@
+pub mod FailingItem
+pub mod Failing
+pub mod Wrong
+pub mod Verdict
