@@ -58,27 +58,27 @@ step_known-requires-in-Some-next_move-clause-admitted g c =
     let so_far = (goes_here _ _ _ here c.loop-read.invariant.goes) in
     all_admit_next _ _ _ c.in-Some-next_move.ensures.command _ _ refl _ so_far.through.modes
 
-pub loop-read-preserved-else-not-step_known-in-Some-next_move :
-    goal.loop-read-preserved-else-not-step_known-in-Some-next_move
-loop-read-preserved-else-not-step_known-in-Some-next_move g c =
+pub loop-read-preserved-else-not-step_known-2 :
+    goal.loop-read-preserved-else-not-step_known-2
+loop-read-preserved-else-not-step_known-2 g c =
     let here = c.in_default.ensures.none in
     let so_far = (goes_here _ _ _ here c.loop-read.invariant.goes) in
     let step = c.step_known-in-Some-next_move.ensures in
     record {
-      known = step.known c.if-not-step_known-in-Some-next_move.false;
-      measured = step.measured c.if-not-step_known-in-Some-next_move.false;
+      known = step.known c.if-not-step_known-2.false;
+      measured = step.measured c.if-not-step_known-2.false;
       goes =
-          goes_open _ _ _ c.if-not-step_known-in-Some-next_move.false
+          goes_open _ _ _ c.if-not-step_known-2.false
           (item_behind _ _ _ _ c.one_reading.ensures c.watched_runs_are_alike.ensures _ _ _ refl so_far
           c.in-Some-next_move.ensures.command step.open step.told step.untold step.came);
     }
 
-pub returns-then-not-step_known-in-Some-next_move : goal.returns-then-not-step_known-in-Some-next_move
-returns-then-not-step_known-in-Some-next_move g c =
+pub returns-then-not-step_known-2 : goal.returns-then-not-step_known-2
+returns-then-not-step_known-2 g c =
     let here = c.in_default.ensures.none in
     let so_far = (goes_here _ _ _ here c.loop-read.invariant.goes) in
     let step = c.step_known-in-Some-next_move.ensures in
-    answered _ _ _ _ c.if-not-step_known-in-Some-next_move.true
+    answered _ _ _ _ c.if-not-step_known-2.true
     (item_behind _ _ _ _ c.one_reading.ensures c.watched_runs_are_alike.ensures _ _ _ refl so_far
     c.in-Some-next_move.ensures.command step.open step.told step.untold step.came)
 
@@ -96,27 +96,27 @@ step_known-requires-in-Some-next_position-clause-admitted g c =
     let so_far = (goes_here _ _ _ here c.loop-read.invariant.goes) in
     all_admit_next _ _ _ c.in-Some-next_position.ensures.command _ _ refl _ so_far.through.modes
 
-pub loop-read-preserved-else-not-step_known-in-Some-next_position :
-    goal.loop-read-preserved-else-not-step_known-in-Some-next_position
-loop-read-preserved-else-not-step_known-in-Some-next_position g c =
+pub loop-read-preserved-else-not-step_known-3 :
+    goal.loop-read-preserved-else-not-step_known-3
+loop-read-preserved-else-not-step_known-3 g c =
     let here = c.in_default-next_move.ensures.none ∙ c.in_default.ensures.none in
     let so_far = (goes_here _ _ _ here c.loop-read.invariant.goes) in
     let step = c.step_known-in-Some-next_position.ensures in
     record {
-      known = step.known c.if-not-step_known-in-Some-next_position.false;
-      measured = step.measured c.if-not-step_known-in-Some-next_position.false;
+      known = step.known c.if-not-step_known-3.false;
+      measured = step.measured c.if-not-step_known-3.false;
       goes =
-          goes_open _ _ _ c.if-not-step_known-in-Some-next_position.false
+          goes_open _ _ _ c.if-not-step_known-3.false
           (item_behind _ _ _ _ c.one_reading.ensures c.watched_runs_are_alike.ensures _ _ _ refl so_far
           c.in-Some-next_position.ensures.command step.open step.told step.untold step.came);
     }
 
-pub returns-then-not-step_known-in-Some-next_position : goal.returns-then-not-step_known-in-Some-next_position
-returns-then-not-step_known-in-Some-next_position g c =
+pub returns-then-not-step_known-3 : goal.returns-then-not-step_known-3
+returns-then-not-step_known-3 g c =
     let here = c.in_default-next_move.ensures.none ∙ c.in_default.ensures.none in
     let so_far = (goes_here _ _ _ here c.loop-read.invariant.goes) in
     let step = c.step_known-in-Some-next_position.ensures in
-    answered _ _ _ _ c.if-not-step_known-in-Some-next_position.true
+    answered _ _ _ _ c.if-not-step_known-3.true
     (item_behind _ _ _ _ c.one_reading.ensures c.watched_runs_are_alike.ensures _ _ _ refl so_far
     c.in-Some-next_position.ensures.command step.open step.told step.untold step.came)
 
@@ -134,27 +134,27 @@ step_known-requires-in-Some-next_command-clause-admitted g c =
     let so_far = (goes_here _ _ _ here c.loop-read.invariant.goes) in
     all_admit_next _ _ _ c.in-Some-next_command.ensures.command _ _ refl _ so_far.through.modes
 
-pub loop-read-preserved-else-not-step_known-in-Some-next_command :
-    goal.loop-read-preserved-else-not-step_known-in-Some-next_command
-loop-read-preserved-else-not-step_known-in-Some-next_command g c =
+pub loop-read-preserved-else-not-step_known-4 :
+    goal.loop-read-preserved-else-not-step_known-4
+loop-read-preserved-else-not-step_known-4 g c =
     let here = c.in_default-next_position.ensures.none ∙ c.in_default-next_move.ensures.none ∙ c.in_default.ensures.none in
     let so_far = (goes_here _ _ _ here c.loop-read.invariant.goes) in
     let step = c.step_known-in-Some-next_command.ensures in
     record {
-      known = step.known c.if-not-step_known-in-Some-next_command.false;
-      measured = step.measured c.if-not-step_known-in-Some-next_command.false;
+      known = step.known c.if-not-step_known-4.false;
+      measured = step.measured c.if-not-step_known-4.false;
       goes =
-          goes_open _ _ _ c.if-not-step_known-in-Some-next_command.false
+          goes_open _ _ _ c.if-not-step_known-4.false
           (item_behind _ _ _ _ c.one_reading.ensures c.watched_runs_are_alike.ensures _ _ _ refl so_far
           c.in-Some-next_command.ensures.command step.open step.told step.untold step.came);
     }
 
-pub returns-then-not-step_known-in-Some-next_command : goal.returns-then-not-step_known-in-Some-next_command
-returns-then-not-step_known-in-Some-next_command g c =
+pub returns-then-not-step_known-4 : goal.returns-then-not-step_known-4
+returns-then-not-step_known-4 g c =
     let here = c.in_default-next_position.ensures.none ∙ c.in_default-next_move.ensures.none ∙ c.in_default.ensures.none in
     let so_far = (goes_here _ _ _ here c.loop-read.invariant.goes) in
     let step = c.step_known-in-Some-next_command.ensures in
-    answered _ _ _ _ c.if-not-step_known-in-Some-next_command.true
+    answered _ _ _ _ c.if-not-step_known-4.true
     (item_behind _ _ _ _ c.one_reading.ensures c.watched_runs_are_alike.ensures _ _ _ refl so_far
     c.in-Some-next_command.ensures.command step.open step.told step.untold step.came)
 
