@@ -236,10 +236,35 @@ fn is_marked(marks: u64, marked: bool) -> bool
     marks != 0 || marked
 }
 
-/// Carries out a command that moves the pen, or a further pair of its coordinates, where it leads
-/// within the box, and tells how many lines it marked. These are not told.
+/// Whether a command finds the pen lowered that it lowers, on a page with a mark, as the further
+/// pairs of one do.
 #[inline(always)]
-pub fn draw_on(
+fn goes_on_drawing(page: &Page, motion: Motion) -> bool
+    ensures lowers { IsTrue result → motion ≡ Down }
+    ensures down { IsTrue result → page.now.env.job.pen.is_down ≡ true }
+    ensures marked { IsTrue result → page.now.marked ≡ true }
+{
+    matches!(motion, Motion::Down) && page.env.job.pen.is_down && page.marked
+}
+
+/// Carries out a pair of coordinates of such a command. It changes nothing but where the pen is.
+#[inline(always)]
+fn draw_line(bounds: &PenBounds, page: &mut Page, to: Coordinates) -> Option<u64>
+    requires down { page.old.env.job.pen.is_down ≡ true }
+    requires marked { page.old.marked ≡ true }
+    ensures drawn { IfSome result (λ marks.
+        DrawsTo bounds.now Down (Some (to.x.units, to.y.units)) marks page.old page.new) }
+    ensures same { IfNone result (page.new ≡ page.old) }
+{
+    let place = led(bounds, &page.env.job.pen, Some(to))?;
+    page.env.job.pen.place = place;
+    Some(1)
+}
+
+/// Carries out any command that moves the pen, or a further pair of its coordinates, where it leads
+/// within the box, and tells how many lines it marked.
+#[inline(always)]
+fn move_on(
     bounds: &PenBounds,
     page: &mut Page,
     motion: Motion,
@@ -256,4 +281,26 @@ pub fn draw_on(
     page.env.job.pen = Pen { place, ..pen };
     page.marked = marked;
     Some(marks)
+}
+
+/// Carries out a command that moves the pen, or a further pair of its coordinates, where it leads
+/// within the box, and tells how many lines it marked. These are not told.
+#[inline(always)]
+pub fn draw_on(
+    bounds: &PenBounds,
+    page: &mut Page,
+    motion: Motion,
+    to: Option<Coordinates>,
+) -> Option<u64>
+    ensures drawn { IfSome result (λ marks.
+        DrawsTo bounds.now motion (pair to) marks page.old page.new) }
+    ensures same { IfNone result (page.new ≡ page.old) }
+{
+    if !goes_on_drawing(page, motion) {
+        return move_on(bounds, page, motion, to);
+    }
+    match to {
+        Some(to) => draw_line(bounds, page, to),
+        None => move_on(bounds, page, motion, to),
+    }
 }

@@ -2,7 +2,7 @@
 
 ghost use Rattle.std.specs.Prelude.{◌≡◌, ◌≤◌, ◌-◌, ◌+◌, ◌^◌, ◌++◌, ℕ, List, [], length};
 ghost use Rattle.std.specs.Prelude.{take, drop, false, true, vec_len, vec_capacity, IfNone};
-ghost use Rattle.std.specs.Prelude.{IfOk, IfSome, OnOk, OnErr};
+ghost use Rattle.std.specs.Prelude.{IfOk, IfSome, IsTrue, OnOk, OnErr};
 ghost use Rattle.std.specs.Borrow.{sem};
 
 pub(crate) mod ahead;
@@ -10,7 +10,7 @@ pub(crate) mod first;
 pub(crate) mod lexed;
 
 use crate::frame::Gap;
-use crate::frame::pair::{bare_motion_in, pair_in};
+use crate::frame::pair::{bare_motion_in, is_behind_down, pair_in};
 use crate::lexer::ahead::{
     Ahead, byte_in, data_before, line_end_in, next_ahead, sequence_in, text_in, undecided,
     with_its_data,
@@ -19,7 +19,7 @@ use crate::lexer::first::{Context, First, Numbers};
 use crate::lexer::lexed::Lexed;
 use crate::pcl::command_with_data::row_in;
 use crate::pcl::parameterized::{parameterized_in, short_in};
-use pcl_items::{Data, Group, Item, LexFault, LineEnd, Place, SimpleItem};
+use pcl_items::{Data, Group, Item, LexFault, LineEnd, Motion, Place, SimpleItem};
 use std::alloc::{AllocError, Allocator, Global};
 use std::marker::Model;
 
@@ -85,6 +85,9 @@ impl<A: Allocator> Lexer<A> {
     ghost use Rattle.pcl_lexer.specs.Lexing.Meaning.{HasRead, IsNext, answer_of, answer_of_end};
     ghost use Rattle.pcl_lexer.specs.Lexing.Lending.{Leaves, LeavesAtRow, Steps};
     ghost use Rattle.pcl_lexer.specs.Lexing.Passing.{ahead_of, ReadsLines};
+    ghost use Rattle.pcl_lexer.specs.Lexing.Contexts.{Numbered, Even};
+    ghost use Rattle.pcl_lexer.specs.declared.frame.Gap.TheVariants.{Straight};
+    ghost use Rattle.pcl_items.specs.declared.frame.Motion.TheVariants.{Down};
     ghost use Rattle.pcl_items.specs.Lines.{AreLines};
 
     /// A lexer to which nothing was fed.
@@ -261,6 +264,44 @@ impl<A: Allocator> Lexer<A> {
         })
     }
 
+    /// Whether whole pairs of a command that lowers the pen stand before and a comma next, so that
+    /// a further pair of it may stand there.
+    #[inline(always)]
+    pub fn goes_on_down(&self) -> bool
+        ensures { IsTrue result → self.now.context ≡ Numbered (Even Down) Straight 0 }
+    {
+        is_behind_down(self.context) && self.is_before_comma()
+    }
+
+    /// The further pair of such a command that stands next, where it is known that one does: the
+    /// item that `next` would give. The command stays as it is.
+    ///
+    /// It tells nothing of what else may stand next.
+    // What stands before is not looked at, so that a loop over such pairs does so once.
+    #[inline(always)]
+    pub fn next_further(&mut self) -> Option<PlacedItem>
+        requires { self.old.context ≡ Numbered (Even Down) Straight 0 }
+        ensures pair { IfSome result (λ read. IsNext self.old (answer_of read) self.new) }
+        ensures none { IfNone result (self.new ≡ self.old) }
+        ensures context { self.new.context ≡ self.old.context }
+    {
+        if !self.is_before_comma() {
+            return None;
+        }
+        let behind = Context::Numbered(Numbers::Even(Motion::Down), Gap::Straight, 0);
+        let Some(read) = pair_in(behind, self.place(), self.unread()) else {
+            return None;
+        };
+        if !read.is_further {
+            return None;
+        }
+        self.at += read.len;
+        Some(PlacedItem {
+            place: read.place,
+            item: SimpleItem::Move(read.motion, Some(read.to)),
+        })
+    }
+
     /// The command of a frame that moves the pen and has no coordinates, that stands next, where it
     /// is known that one does: the item that `next` would give.
     ///
@@ -409,6 +450,12 @@ impl<A: Allocator> Lexer<A> {
             place,
             item: SimpleItem::Parameterized(read.command, read.number),
         })
+    }
+
+    /// Whether a comma stands next.
+    #[inline(always)]
+    fn is_before_comma(&self) -> bool {
+        matches!(self.unread(), [b',', ..])
     }
 
     /// The bytes that were fed and are not read.

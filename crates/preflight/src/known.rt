@@ -59,6 +59,10 @@ impl<'p, A: Allocator + Copy, P: Allocator> Lockstep<'p, A, P> {
         if self.form(read.item, known) {
             return true;
         }
+        // What a call reads lies in memory: it gets a copy, and a command that is known to go stays
+        // in registers.
+        let PlacedItem { place, item } = read;
+        let read = PlacedItem { place, item };
         self.step_unknown(read, known, measure, state, failing_item)
     }
 

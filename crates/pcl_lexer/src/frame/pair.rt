@@ -5,9 +5,10 @@
 //! letters and over each coordinate, is answered here at once. Whatever is written in another way
 //! than plots mostly are is left to those steps.
 
-ghost use Rattle.std.specs.Prelude.{◌≤◌, ◌+◌, ◌^◌, ℕ, length, IfSome};
+ghost use Rattle.std.specs.Prelude.{◌≡◌, ◌≤◌, ◌+◌, ◌^◌, ℕ, length, IfSome, IsTrue};
 ghost use Rattle.pcl_lexer.specs.declared.frame.Gap.TheVariants.{Straight};
 ghost use Rattle.pcl_items.specs.declared.frame.Motion.{Motion};
+ghost use Rattle.pcl_items.specs.declared.frame.Motion.TheVariants.{Down};
 ghost use Rattle.pcl_lexer.specs.Lexing.Contexts.{Frame, Numbered, Even};
 ghost use Rattle.pcl_lexer.specs.Lexing.FirstView.{context_view};
 ghost use Rattle.pcl_lexer.specs.Frames.Pairs.{IsBareAhead, IsPairAhead, Leads, LeadsCommand};
@@ -76,6 +77,17 @@ pub fn pair_in(context: Context, place: Place, bytes: &[u8]) -> Option<ReadPair>
         },
         is_further: lead.is_further,
     })
+}
+
+/// Whether whole pairs of a command that lowers the pen stand before.
+#[inline(always)]
+pub fn is_behind_down(context: Context) -> bool
+    ensures { IsTrue result → context_view context ≡ Numbered (Even Down) Straight 0 }
+{
+    match context {
+        Context::Numbered(Numbers::Even(Motion::Down), Gap::Straight, 0) => true,
+        _ => false,
+    }
 }
 
 /// The command that moves the pen and has no coordinates, that stands first in the bytes at this

@@ -4,11 +4,11 @@ use Rattle.preflight.specs.Carriers.PairsInStep.{FirstDraws}
 use Rattle.preflight.proofs.Loops.{CheckGoesOn}
 use Rattle.preflight.proofs.checking.Checking.execute_in_box.Given as goal
 
-abbrev pub invariant-loop-read : goal.invariant-loop-read
-invariant-loop-read g l = record {
+abbrev pub invariant-loop-is_open : goal.invariant-loop-is_open
+invariant-loop-is_open g l = record {
   draws : FirstDraws l.bounds (machines_of l.self.machines);
   goes : CheckGoesOn l.initial.self l.self;
 }
 
-abbrev pub decreases-loop-read : goal.decreases-loop-read
-decreases-loop-read g l = left l.self.lexer.context l.self.lexer.rest
+abbrev pub decreases-loop-is_open : goal.decreases-loop-is_open
+decreases-loop-is_open g l = left l.self.lexer.context l.self.lexer.rest
