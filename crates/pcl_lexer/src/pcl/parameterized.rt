@@ -98,6 +98,7 @@ fn short_command(group: Group, begun: Group, bytes: &[u8]) -> Option<ReadCommand
 /// The command of a group that the byte behind a field ends.
 #[inline(always)]
 fn ended_command(group: Group, field: EndedField) -> Option<ReadCommand>
+    requires { field.len ≤ 16 }
     ensures { IfSome result (λ read. IsEndedBy read group field) }
 {
     // The letters of commands are capital ones, so a byte that is no letter names none.
