@@ -41,6 +41,14 @@ ends_in_range low high a b half l h e =
 
 -- ---- where the first black pixel of a row lies between two lengths, the row begins at a coordinate
 
+pub pixel_small : (resolution : Resolution) → pixel_of resolution ≤ 2 ^ 29
+pixel_small Dots75 = omega arith
+pixel_small Dots100 = omega arith
+pixel_small Dots150 = omega arith
+pixel_small Dots200 = omega arith
+pixel_small Dots300 = omega arith
+pixel_small Dots600 = omega arith
+
 few_pixels : (white : ℕ) (resolution : Resolution) → white ≤ 8 → white * pixel_of resolution ≤ 2 ^ 50
 few_pixels white Dots75 few = omega arith
 few_pixels white Dots100 few = omega arith

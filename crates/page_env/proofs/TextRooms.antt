@@ -182,6 +182,20 @@ lines_more m from bytes lines next h k =
       glyphs = let both = count_append first second in let all = ap glyph_count whole in omega (arith, h.glyphs, k.glyphs, both, all);
     }
 
+-- a carriage return, and a line feed behind it
+pub return_and_feed : (m : TextMeasure) (from : TextPlace) (rest : List ℕ) (first second : TextLines) → first.count ≡ 1 →
+    second.count ≡ 1 → AreLinesFrom m from (13 ∷ 10 ∷ rest) first → AreLinesFrom m first.end (10 ∷ rest) second →
+    AreLinesFrom m from (13 ∷ 10 ∷ rest) (record { count = 2; glyphs = 0; end = second.end })
+return_and_feed m from rest first second one other h k =
+    let codes : List ℕ = 13 ∷ 10 ∷ rest in
+    let further : AreLinesFrom m first.end (drop first.count codes) second =
+    subst (λ n. AreLinesFrom m first.end (drop n codes) second) (sym one) k in
+    let both = lines_more m from codes first second h further in
+    let count : first.count + second.count ≡ 2 = omega (arith, one, other) in
+    let glyphs : first.glyphs + second.glyphs ≡ 0 = both.glyphs ∙ ap (λ n. glyph_count (take n codes)) count in
+    subst (λ (lines : TextLines). AreLinesFrom m from codes lines)
+    (λ i. record { count = count i; glyphs = glyphs i; end = second.end }) both
+
 -- ---- a run of text
 
 -- a byte that can go in a face is neither CR nor LF

@@ -23,7 +23,6 @@ use crate::cursor::Coordinate;
 use crate::finding::Finding;
 use crate::mark::{Mark, RasterRow};
 use crate::mask::first_set;
-use crate::motion::up_to;
 use crate::number::{is_whole_between, whole_of};
 use crate::page::{Page, RasterSettings, Resolution, StartedRaster};
 use crate::places::{
@@ -64,12 +63,13 @@ fn raster_behind(rows: u32, raster: StartedRaster) -> Option<StartedRaster>
 }
 
 /// How far down the place so many rows below another lies, in ticks.
-fn rows_below(y: Coordinate, rows: u32, resolution: Resolution) -> i128
+#[inline(always)]
+fn rows_below(y: Coordinate, rows: u32, resolution: Resolution) -> i64
     ensures value { result ≡ y +ℤ pos (rows * pixel_of resolution) }
     ensures low { neg_ℤ (pos (2 ^ 60 + 2 ^ 50)) ≤ℤ result }
 {
     let by = u64::from(rows) * u64::from(pixel_of(resolution));
-    i128::from(y.ticks()) + i128::from(by)
+    y.ticks() + by as i64
 }
 
 /// The place so many rows below another, unless it lies past a limit.
@@ -82,7 +82,11 @@ fn place_behind(
     ensures { let place = y +ℤ pos (rows * pixel_of resolution) in
         result ≡ cond (int_lt limit place) None (Some place) }
 {
-    up_to(limit.ticks(), rows_below(y, rows, resolution))
+    let place = rows_below(y, rows, resolution);
+    if limit.ticks() < place {
+        return None;
+    }
+    Some(Coordinate::from_ticks(place))
 }
 
 /// `*b#Y`: leaves so many rows white.
@@ -314,6 +318,7 @@ fn row_start(
 }
 
 /// The upper edge of a row at a place of the sheet, if the row lies between two bounds.
+#[inline(always)]
 fn row_top(place: SheetPlace, resolution: Resolution, low: Length, high: Length) -> Option<Length>
     ensures { let edge = place.y in
         result ≡ cond (is_between low high edge

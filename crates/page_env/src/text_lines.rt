@@ -2,8 +2,8 @@
 //! they read is read once.
 
 ghost use Rattle.std.specs.Prelude.{◌≡◌, ◌↔◌, ◌≤◌, ◌+◌, ◌*◌, ◌^◌, ℕ, List, [], ◌∷◌, Some, pos};
-ghost use Rattle.std.specs.Prelude.{true, ◌&&◌, ◌+ℤ◌, ◌-ℤ◌, ◌≤ℤ◌, cond, length, take, unwrap_or};
-ghost use Rattle.std.specs.Prelude.{None, IfSome, IsTrue};
+ghost use Rattle.std.specs.Prelude.{true, ◌+ℤ◌, ◌-ℤ◌, ◌≤ℤ◌, cond, length, take, unwrap_or};
+ghost use Rattle.std.specs.Prelude.{None, IfSome, IsTrue, ◌%◌, count_ones};
 ghost use Rattle.tick_length.specs.Length.{IsInRange};
 ghost use Rattle.device_profile.specs.declared.font.CodeRange.{CodeRange};
 ghost use Rattle.device_profile.specs.Faces.{is_text_of};
@@ -13,8 +13,7 @@ ghost use Rattle.page_env.specs.Settings.{half_inch, state_at};
 ghost use Rattle.page_env.specs.Effect.{first_unset};
 ghost use Rattle.page_env.specs.FontInForce.{font_reads, request_of};
 ghost use Rattle.page_env.specs.Motion.{line_termination, line_termination_reads};
-ghost use Rattle.page_env.specs.Numbers.{IsWithin};
-ghost use Rattle.page_env.specs.Places.{geometry_of, is_between, line_of, origin_of};
+ghost use Rattle.page_env.specs.Places.{geometry_of, line_of, origin_of};
 ghost use Rattle.page_env.specs.TextLines.{CanGoIn, GoAs, StandsAt, a_line_down, box_at};
 ghost use Rattle.page_env.specs.TextLines.{glyph_count, inked_count, page_behind_all, place_behind};
 ghost use Rattle.page_env.specs.TextMeasure.{AllHaveRoom, AreLinesFrom, HasLine, HasMeasure};
@@ -27,8 +26,8 @@ use crate::mask::first_set;
 use crate::motion::{LineTermination, feed_limit, line_termination};
 use crate::page::Page;
 use crate::places::{
-    Origin, column_width, known_geometry, length_at, length_in, lies_between, on_sheet,
-    right_margin,
+    Origin, after, before, both_lie_between, column_width, known_geometry, length_at, length_in,
+    on_sheet, right_margin,
 };
 use device_profile::{CodeRange, Field, FontRequest, FontRow, Geometry, Profile, are_same_ranges};
 use std::alloc::Allocator;
@@ -319,19 +318,24 @@ fn columns_up_to(column: u64, x: Length, edge: Length, last: Length) -> u64
     ended.min(others.saturating_add(1))
 }
 
+/// Columns that are wider are counted by a division.
+const WIDEST_COLUMN: u64 = 1 << 50;
+
 /// Whether so many columns from a place end at an edge and begin up to a last place.
 // It asks without a division, since mostly nothing is near an edge.
+#[inline(always)]
 fn fit_columns(column: u64, x: Length, count: usize, edge: Length, last: Length) -> bool
     requires { count ≤ 255 }
     ensures columns { IsTrue result → ((x +ℤ pos (count * column)) ≤ℤ edge) ×
         ((x +ℤ pos (count * column)) ≤ℤ (last +ℤ pos column)) }
     ensures in_range { IsInRange x × IsInRange edge }
 {
-    let Some(by) = column.checked_mul(count as u64) else {
+    if column > WIDEST_COLUMN {
         return false;
-    };
-    let end = i128::from(x.ticks()) + i128::from(by);
-    end <= i128::from(edge.ticks()) && end <= i128::from(last.ticks()) + i128::from(column)
+    }
+    let by = count as u64 * column;
+    let end = x.ticks() + by as i64;
+    end <= edge.ticks() && end - column as i64 <= last.ticks()
 }
 
 /// How many of so many columns there are from a place, where a character at the place lies within
@@ -366,43 +370,68 @@ const MOST_AT_ONCE: usize = 255;
 /// So many bytes are looked at at once.
 const LANES: usize = 32;
 
+/// So many first bytes, of which so many are no spaces.
+#[derive(Clone, Copy)]
+struct TextCount {
+    all: usize,
+    inked: u64,
+}
+
+/// How many of so many lowest bits are set.
+#[inline(always)]
+fn ones_below(mask: u64, bits: usize) -> u64
+    requires { bits ≤ 32 }
+    ensures { result ≡ count_ones (mask % (2 ^ bits)) }
+{
+    let below = mask % (1 << bits);
+    u64::from(below.count_ones())
+}
+
 /// How many of the first 32 bytes come before the first that is neither a space nor in a range.
 #[inline(always)]
-fn text_of_range(range: CodeRange, bytes: &[u8]) -> usize
+fn text_of_range(range: CodeRange, bytes: &[u8]) -> TextCount
     requires text { 32 ≤ range.first }
     requires room { LANES ≤ length bytes.now }
-    ensures short { result ≤ LANES }
-    ensures known { (others : List CodeRange) → CanGoIn (range ∷ others) (take result bytes.now) }
+    ensures short { result.all ≤ LANES }
+    ensures known { (others : List CodeRange) →
+        CanGoIn (range ∷ others) (take result.all bytes.now) }
+    ensures inked { result.inked ≡ inked_count (take result.all bytes.now) }
 {
     let lanes = u8x32::from_slice(bytes);
     let outside = lanes.simd_lt(u8x32::splat(range.first))
         | lanes.simd_gt(u8x32::splat(range.last));
-    let others = outside & lanes.simd_ne(u8x32::splat(b' '));
-    first_set(others.to_bitmask(), LANES)
+    let inked = lanes.simd_ne(u8x32::splat(b' '));
+    let others = outside & inked;
+    let all = first_set(others.to_bitmask(), LANES);
+    let inked = ones_below(inked.to_bitmask(), all);
+    TextCount { all, inked }
 }
 
 /// How many of the first bytes are spaces or in the first range of a face's codes, as most text is,
 /// counted in lanes.
 #[inline(always)]
-fn text_of_first_range<A: Allocator>(face: &FontRow<A>, bytes: &[u8]) -> usize
-    ensures short { result ≤ length bytes.now }
-    ensures known { CanGoIn face.now.codes (take result bytes.now) }
+fn text_of_first_range<A: Allocator>(face: &FontRow<A>, bytes: &[u8]) -> TextCount
+    ensures short { result.all ≤ length bytes.now }
+    ensures known { CanGoIn face.now.codes (take result.all bytes.now) }
+    ensures inked { result.inked ≡ inked_count (take result.all bytes.now) }
 {
+    let mut known = TextCount { all: 0, inked: 0 };
     let [range, ..] = face.codes() else {
-        return 0;
+        return known;
     };
+    let range = *range;
     if range.first < b' ' {
-        return 0;
+        return known;
     }
-    let mut known = 0;
     for _ in 0..MOST_AT_ONCE / LANES {
-        let rest = &bytes[known..];
+        let rest = &bytes[known.all..];
         if rest.len() < LANES {
             return known;
         }
-        let count = text_of_range(*range, rest);
-        known += count;
-        if count < LANES {
+        let count = text_of_range(range, rest);
+        known.all += count.all;
+        known.inked += count.inked;
+        if count.all < LANES {
             return known;
         }
     }
@@ -411,31 +440,43 @@ fn text_of_first_range<A: Allocator>(face: &FontRow<A>, bytes: &[u8]) -> usize
 
 /// How many of the first bytes can go in a face, looked up one by one.
 #[inline(always)]
-fn text_by_code<A: Allocator>(face: &FontRow<A>, bytes: &[u8]) -> usize
-    ensures short { result ≤ length bytes.now }
-    ensures known { CanGoIn face.now.codes (take result bytes.now) }
+fn text_by_code<A: Allocator>(face: &FontRow<A>, bytes: &[u8]) -> TextCount
+    ensures short { result.all ≤ length bytes.now }
+    ensures known { CanGoIn face.now.codes (take result.all bytes.now) }
+    ensures inked { result.inked ≡ inked_count (take result.all bytes.now) }
 {
-    for (count, code) in bytes.iter().enumerate() {
+    let mut inked = 0;
+    for (all, code) in bytes.iter().enumerate() {
         if !face.is_text(*code) {
-            return count;
+            return TextCount { all, inked };
         }
+        inked += u64::from(*code != b' ');
     }
-    bytes.len()
+    TextCount {
+        all: bytes.len(),
+        inked,
+    }
 }
 
 /// How many of the first bytes can go in a face.
 // A function of its own, so that its loops keep all in registers.
 #[inline(never)]
-fn text_of_face<A: Allocator>(face: &FontRow<A>, bytes: &[u8]) -> usize
-    ensures short { result ≤ length bytes.now }
-    ensures known { CanGoIn face.now.codes (take result bytes.now) }
+fn text_of_face<A: Allocator>(face: &FontRow<A>, bytes: &[u8]) -> TextCount
+    ensures short { result.all ≤ length bytes.now }
+    ensures known { CanGoIn face.now.codes (take result.all bytes.now) }
+    ensures inked { result.inked ≡ inked_count (take result.all bytes.now) }
 {
     let known = text_of_first_range(face, bytes);
-    known + text_by_code(face, &bytes[known..])
+    let others = text_by_code(face, &bytes[known.all..]);
+    TextCount {
+        all: known.all + others.all,
+        inked: known.inked + others.inked,
+    }
 }
 
 /// How many of the bytes are no spaces.
-// In a byte, so that many are counted at once.
+// A call of its own: text is mostly counted before, where it is looked at.
+#[inline(never)]
 fn inked_count(bytes: &[u8]) -> u8
     requires { length bytes.now ≤ 255 }
     ensures { result ≡ inked_count bytes.now }
@@ -449,33 +490,6 @@ fn inked_count(bytes: &[u8]) -> u8
 
 // ---- lines
 
-/// Whether both ends of a stretch lie between two bounds.
-#[inline(always)]
-fn both_lie_between(low: Length, high: Length, start: i64, end: i64) -> bool
-    ensures { result ≡ (is_between low high start && is_between low high end) }
-{
-    let (low, high) = (low.ticks(), high.ticks());
-    lies_between(low, high, start) && lies_between(low, high, end)
-}
-
-/// A place so far behind another.
-#[inline(always)]
-fn after(place: i64, by: Length) -> i64
-    requires { IsWithin (2 ^ 61 + 2 ^ 51) place }
-    ensures { result ≡ place +ℤ by }
-{
-    place + by.ticks()
-}
-
-/// A place so far before another.
-#[inline(always)]
-fn before(place: i64, by: Length) -> i64
-    requires { IsWithin (2 ^ 61 + 2 ^ 51) place }
-    ensures { result ≡ place -ℤ by }
-{
-    place - by.ticks()
-}
-
 /// Whether a character with its reference point at a place lies within an area.
 #[inline(always)]
 fn fits_in(look: &TextAppearance, area: &Bounds, place: TextPlace) -> bool
@@ -484,9 +498,8 @@ fn fits_in(look: &TextAppearance, area: &Bounds, place: TextPlace) -> bool
     let at = on_sheet(look.origin, place.x, place.y);
     let right = after(at.x, look.advance);
     let (top, bottom) = (before(at.y, look.ascent), after(at.y, look.descent));
-    let fits_across = both_lie_between(area.left, area.right, at.x, right);
-    let fits_down = both_lie_between(area.top, area.bottom, top, bottom);
-    fits_across && fits_down
+    both_lie_between(area.left, area.right, at.x, right)
+        && both_lie_between(area.top, area.bottom, top, bottom)
 }
 
 /// A place so many columns behind another.
@@ -499,10 +512,30 @@ fn columns_behind(x: Length, column: u64, columns: usize) -> Length
     length_at(from + i128::from(by))
 }
 
-/// Bytes of text from a place, which have columns and can go in the face.
+/// How many of the first bytes are no spaces, where that is known of so many of them.
 #[inline(always)]
-fn run_of<A: Allocator>(measure: &TextMeasure<'_, A>, place: TextPlace, bytes: &[u8]) -> TextLines
+fn inked_of(bytes: &[u8], known: TextCount) -> u64
     requires few { length bytes.now ≤ 255 }
+    requires known { length bytes.now ≡ known.all → known.inked ≡ inked_count bytes.now }
+    ensures { result ≡ inked_count bytes.now }
+{
+    if bytes.len() == known.all {
+        known.inked
+    } else {
+        u64::from(inked_count(bytes))
+    }
+}
+
+/// Bytes of text from a place, of which so many are no spaces, and which have columns and can go in
+/// the face.
+#[inline(always)]
+fn run_of<A: Allocator>(
+    measure: &TextMeasure<'_, A>,
+    place: TextPlace,
+    bytes: &[u8],
+    inked: u64,
+) -> TextLines
+    requires inked { inked ≡ inked_count bytes.now }
     requires columns { HaveColumns measure.now place (length bytes.now) }
     requires in_face { CanGoIn measure.now.codes bytes.now }
     ensures count { result.count ≡ length bytes.now }
@@ -513,7 +546,7 @@ fn run_of<A: Allocator>(measure: &TextMeasure<'_, A>, place: TextPlace, bytes: &
     let x = columns_behind(place.x, measure.look.column, bytes.len());
     TextLines {
         count: bytes.len(),
-        glyphs: u64::from(inked_count(bytes)),
+        glyphs: inked,
         end: TextPlace { x, y: place.y },
     }
 }
@@ -541,11 +574,13 @@ fn run_ahead<A: Allocator>(
     }
     let most = bytes.len().min(MOST_AT_ONCE);
     let text = text_of_face(measure.face, &bytes[..most]);
-    let count = columns_ahead(measure, &place, text);
+    let count = columns_ahead(measure, &place, text.all);
     if count == 0 {
         return None;
     }
-    Some(run_of(measure, place, &bytes[..count]))
+    let run = &bytes[..count];
+    let inked = inked_of(run, text);
+    Some(run_of(measure, place, run, inked))
 }
 
 /// The place a line further down, unless that is past the foot.
@@ -613,6 +648,65 @@ fn feed_ahead<A: Allocator>(measure: &TextMeasure<'_, A>, place: TextPlace) -> O
     })
 }
 
+/// A carriage return and a line feed at a place, or the first of them alone, as far as it is known
+/// that they have room.
+#[inline(always)]
+fn return_and_feed_ahead<A: Allocator>(
+    measure: &TextMeasure<'_, A>,
+    place: TextPlace,
+) -> Option<TextLines>
+    ensures some { IfSome result (λ lines. 1 ≤ lines.count) }
+    ensures lines { (rest : List ℕ) →
+        IfSome result (λ lines. AreLinesFrom measure.now place (13 ∷ 10 ∷ rest) lines) }
+{
+    let first = return_ahead(measure, place)?;
+    let Some(second) = feed_ahead(measure, first.end) else {
+        return Some(first);
+    };
+    Some(TextLines {
+        count: 2,
+        glyphs: 0,
+        end: second.end,
+    })
+}
+
+/// A carriage return and a line feed, or the first of them alone, where the bytes begin with both.
+#[inline(always)]
+fn line_end_ahead<A: Allocator>(
+    measure: &TextMeasure<'_, A>,
+    place: TextPlace,
+    bytes: &[u8],
+) -> Option<TextLines>
+    ensures some { IfSome result (λ lines. 1 ≤ lines.count) }
+    ensures lines { IfSome result (λ lines. AreLinesFrom measure.now place bytes.now lines) }
+{
+    match bytes {
+        [b'\r', b'\n', ..] => return_and_feed_ahead(measure, place),
+        _ => None,
+    }
+}
+
+/// A run of text, and the end of its line, as far as it is known that they have room.
+#[inline(always)]
+fn line_ahead<A: Allocator>(
+    measure: &TextMeasure<'_, A>,
+    place: TextPlace,
+    bytes: &[u8],
+) -> Option<TextLines>
+    ensures some { IfSome result (λ lines. 1 ≤ lines.count) }
+    ensures lines { IfSome result (λ lines. AreLinesFrom measure.now place bytes.now lines) }
+{
+    let text = run_ahead(measure, place, bytes)?;
+    let Some(end) = line_end_ahead(measure, text.end, &bytes[text.count..]) else {
+        return Some(text);
+    };
+    Some(TextLines {
+        count: text.count + end.count,
+        glyphs: text.glyphs + end.glyphs,
+        end: end.end,
+    })
+}
+
 /// The first bytes that have room from a place: a run of text, or the end of a line.
 #[inline(always)]
 fn next_lines<A: Allocator>(
@@ -624,7 +718,8 @@ fn next_lines<A: Allocator>(
     ensures lines { IfSome result (λ lines. AreLinesFrom measure.now place bytes.now lines) }
 {
     match bytes {
-        [b' '..=255, ..] => run_ahead(measure, place, bytes),
+        [b' '..=255, ..] => line_ahead(measure, place, bytes),
+        [b'\r', b'\n', ..] => return_and_feed_ahead(measure, place),
         [b'\r', ..] => return_ahead(measure, place),
         [b'\n', ..] => feed_ahead(measure, place),
         _ => None,

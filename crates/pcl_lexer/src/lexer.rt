@@ -353,8 +353,8 @@ impl<A: Allocator> Lexer<A> {
             return None;
         };
         let place = self.place();
+        // Mode PCL goes on, so nothing is written of it.
         self.at += read.len;
-        self.context = read.next;
         let lent = data_before(read.count, self.at, &self.window);
         Some(PlacedRow { place, lent })
     }

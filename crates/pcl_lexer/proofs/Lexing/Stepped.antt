@@ -84,13 +84,6 @@ row_is_answer window start dropped ended held read row command ahead place is =
     subst (λ (p : ℕ). AdvancesOver (standing window start dropped Pcl ended held) (entries.at p entry ∷ []) new) (sym place)
     (record { reads = one_item ended Pcl next window start dropped read.len entry first; ended = refl; held = refl })
 
--- what is counted behind a row
-pub row_counts : (bytes : List ℕ) (read : ReadWithData) → IsAheadWithData read Pcl bytes →
-    counted (context_view read.next) ≤ counted Pcl + read.len
-row_counts bytes read t =
-    (begins-taken true Pcl bytes (WithData read.command (take read.count.bytes (drop (read.len - read.count.bytes) bytes))) read.len
-    (context_view read.next) (t.0 true)).counts
-
 -- no parameterized command is read of a frame
 command_place : (c : Context) (place : ℕ) (command : Command) (a : Amount) (m : Mode) →
     follows (mode_of c) (Parameterized command a) ≡ Some m → item_place c place ≡ place

@@ -1,6 +1,7 @@
 //! What stands first in bytes.
 
 ghost use Rattle.std.specs.Prelude.{◌≡◌, ◌≤◌, ◌<◌, ◌+◌, ◌∷◌, [], List, ℕ, length, drop, Bool, Some};
+ghost use Rattle.std.specs.Prelude.{IfSome};
 ghost use Rattle.std.specs.Option.{option_map};
 ghost use Rattle.pcl_lexer.specs.Reader.{command_in, behind_ungrouped, without_group, in_group};
 ghost use Rattle.pcl_lexer.specs.Reader.{after_introducer, after_parenthesis, after_escape};
@@ -17,7 +18,7 @@ ghost use Rattle.pcl_lexer.specs.Lexing.FirstView.{context_view, first_view, Wit
 
 use crate::frame::Gap;
 use crate::pcl::counting::{count_of, handover_of, is_three};
-use crate::pcl::field::{EndedField, FieldEnd, field_end};
+use crate::pcl::field::{EndedField, FieldEnd, field_end, short_field};
 use pcl_items::{
     Command, DataCommand, DataCount, Group, LexCause, Magnitude, Mnemonic, Mode, Motion, Name,
     Number, Place, PlotterCoordinate, SetLetter, Setting, SimpleItem, TextByte, control_at,
@@ -227,6 +228,17 @@ pub fn command(group: Group, bytes: &[u8]) -> First
         FieldEnd::BadNumber => First::Faulty(LexCause::BadNumber),
         FieldEnd::Ended(field) => ended_command(group, field, bytes),
     }
+}
+
+/// The command of a group that stands first, if its number is a short one.
+#[inline(always)]
+pub fn short_command(group: Group, bytes: &[u8]) -> Option<First>
+    ensures first { IfSome result (λ first.
+        first_view bytes.now first ≡ command_in group bytes.now) }
+    ensures within { IfSome result (λ first. Within (length bytes.now) first) }
+{
+    let field = short_field(bytes)?;
+    Some(ended_command(group, field, bytes))
 }
 
 /// The command that a byte ends behind its field, with which the bytes begin.

@@ -8,7 +8,7 @@ ghost use Rattle.pcl_lexer.specs.Lexing.Contexts.{Pcl};
 ghost use Rattle.pcl_lexer.specs.Lexing.FirstView.{context_view};
 ghost use Rattle.pcl_lexer.specs.Escapes.ReadCommands.{IsAheadWithData, IsInGroupWithData};
 
-use crate::lexer::first::{Context, First, Head, command};
+use crate::lexer::first::{Context, First, Head, command, short_command};
 use pcl_items::{DataCommand, DataCount, Group};
 
 /// A command and how many bytes of data it has, how many bytes spell both, and what stands before
@@ -37,19 +37,22 @@ pub fn with_data_in(context: Context, bytes: &[u8]) -> Option<ReadWithData>
     }
 }
 
-/// The row of a raster that stands first in the bytes in mode PCL, unless they begin with something
-/// else.
-// It does what `with_data_in` does, for one group alone.
+/// The row of a raster that stands first in the bytes in mode PCL, if it is spelled in short, unless
+/// they begin with something else.
+// It does what `with_data_in` does, for one group alone, and looks for none but short numbers.
 #[inline(always)]
 pub fn row_in(bytes: &[u8]) -> Option<ReadWithData>
     ensures { IfSome result (λ read. (read.command ≡ RasterRow)
-        × IsAheadWithData read Pcl bytes.now) }
+        × IsAheadWithData read Pcl bytes.now × (context_view read.next ≡ Pcl)) }
 {
     let [b'\x1b', b'*', b'b', rest @ ..] = bytes else {
         return None;
     };
-    let read = in_group(Group::RasterData, rest)?;
+    let read = in_short(Group::RasterData, rest)?;
     let DataCommand::RasterRow = read.command else {
+        return None;
+    };
+    let Context::Pcl = read.next else {
         return None;
     };
     Some(ReadWithData {
@@ -72,6 +75,22 @@ fn escaped(bytes: &[u8]) -> Option<ReadWithData>
                 ..read
             })
         }
+        _ => None,
+    }
+}
+
+/// The command with data and a short number that stands first behind the characters of its group.
+#[inline(always)]
+fn in_short(group: Group, bytes: &[u8]) -> Option<ReadWithData>
+    ensures { IfSome result (λ read. IsInGroupWithData read group bytes.now) }
+{
+    match short_command(group, bytes) {
+        Some(First::Begins(len, Head::WithData(command, count), next)) => Some(ReadWithData {
+            len,
+            command,
+            count,
+            next,
+        }),
         _ => None,
     }
 }

@@ -22,4 +22,4 @@ returns-clause-end g c =
     (λ i. record c.args.place { x = x i }) ∙ run_leads m.look m.codes c.args.bytes.now c.args.place c.requires.in_face
 
 pub returns-clause-glyphs : goal.returns-clause-glyphs
-returns-clause-glyphs g c = c.from.ensures ∙ c.inked_count.ensures ∙ run_inked c.args.measure.now.codes c.args.bytes.now c.requires.in_face
+returns-clause-glyphs g c = c.requires.inked ∙ run_inked c.args.measure.now.codes c.args.bytes.now c.requires.in_face

@@ -1,42 +1,71 @@
-use Rattle.std.proofs.Common.{◌≡◌, ◌==◌, ℕ, Bool, List, length, take, not, cond, bit_and, bit_or, ◌∷◌, sym, subst, arith}
+use Rattle.std.proofs.Common.{◌≡◌, ◌==◌, ◌≤◌, ◌%◌, ◌^◌, ℕ, Bool, List, length, map, take, not, cond, bit_and, bit_or, replicate, ◌∷◌}
+use Rattle.std.proofs.Common.{◌∙◌, ap, sym, subst, arith}
 use Rattle.std.specs.Prelude.{nat_lt}
 use Rattle.std.specs.List.{prefix_len}
+use Rattle.std.proofs.lemmas.List.{take-take}
 use Rattle.std.proofs.lemmas.List.Sums.{prefix_len-le-length}
 use Rattle.std.proofs.lemmas.Simd.{length-chunk, zip2_splat, zip2_splat_left, zip2_of_maps}
-use lib.Lanes.{chunk}
-use Rattle.page_env.specs.TextLines.{CanGoIn}
-use Rattle.page_env.proofs.Lanes.{tops, before_first, is_other, can_go_before}
+use lib.Lanes.{chunk, mask_l, top, zip2}
+use Rattle.device_profile.specs.declared.font.CodeRange.{CodeRange}
+use Rattle.page_env.specs.Lanes.{first_set}
+use Rattle.page_env.specs.TextLines.{CanGoIn, inked_count}
+use Rattle.page_env.proofs.Lanes.{tops, before_first, is_other, can_go_before, inked_below}
 use Rattle.page_env.proofs.text_lines.text_of_range.Goals as goal
 
 -- all bits of a lane, where a test is met
 abbrev set : Bool → ℕ
 set b = cond b 255 0
 
-counted : (c : goal.After-first_set) → c.first_set.result ≡ prefix_len (λ x. not (is_other c.args.range x)) (take 32 c.args.bytes.now)
-counted c =
-    let first = c.args.range.first in
-    let last = c.args.range.last in
-    let v : List ℕ = chunk 0 32 c.args.bytes.now in
-    let long : length v ≡ 32 = length-chunk 0 32 c.args.bytes.now c.requires.room in
-    let below = zip2_splat (λ (a b : ℕ). set (nat_lt a b)) v 32 first long in
-    let above = zip2_splat_left (λ (a b : ℕ). set (nat_lt a b)) last 32 v long in
-    let no_space = zip2_splat (λ (a b : ℕ). set (not (a == b))) v 32 32 long in
-    let outside = zip2_of_maps bit_or (λ (x : ℕ). set (nat_lt x first)) (λ x. set (nat_lt last x)) v below above in
-    let other =
-    zip2_of_maps bit_and (λ (x : ℕ). bit_or (set (nat_lt x first)) (set (nat_lt last x))) (λ x. set (not (x == 32))) v outside no_space in
-    before_first (is_other c.args.range) (λ x. bit_and (bit_or (set (nat_lt x first)) (set (nat_lt last x))) (set (not (x == 32))))
-    (λ x. tops (nat_lt x first) (nat_lt last x) (not (x == 32))) v _ long other c.first_set.result c.first_set.ensures
+-- the lanes of a byte outside of a range that is no space
+abbrev others_of : CodeRange → List ℕ → List ℕ
+others_of range v =
+    zip2 bit_and
+    (zip2 bit_or (zip2 (λ (a b : ℕ). set (nat_lt a b)) v (replicate 32 range.first))
+    (zip2 (λ (a b : ℕ). set (nat_lt a b)) (replicate 32 range.last) v))
+    (zip2 (λ (a b : ℕ). set (not (a == b))) v (replicate 32 32))
+
+module _ (range : CodeRange) (bytes : List ℕ) (room : 32 ≤ length bytes) (r : ℕ)
+    (found : r ≡ first_set (mask_l (map (top 7) (others_of range (chunk 0 32 bytes))) % 2 ^ 64) 32) where
+  counted : r ≡ prefix_len (λ x. not (is_other range x)) (take 32 bytes)
+  counted =
+      let v : List ℕ = chunk 0 32 bytes in
+      let long : length v ≡ 32 = length-chunk 0 32 bytes room in
+      let below = zip2_splat (λ (a b : ℕ). set (nat_lt a b)) v 32 range.first long in
+      let above = zip2_splat_left (λ (a b : ℕ). set (nat_lt a b)) range.last 32 v long in
+      let no_space = zip2_splat (λ (a b : ℕ). set (not (a == b))) v 32 32 long in
+      let outside = zip2_of_maps bit_or (λ (x : ℕ). set (nat_lt x range.first)) (λ x. set (nat_lt range.last x)) v below above in
+      let other =
+      zip2_of_maps bit_and (λ (x : ℕ). bit_or (set (nat_lt x range.first)) (set (nat_lt range.last x))) (λ x. set (not (x == 32))) v
+      outside no_space in
+      before_first (is_other range) (λ x. bit_and (bit_or (set (nat_lt x range.first)) (set (nat_lt range.last x))) (set (not (x == 32))))
+      (λ x. tops (nat_lt x range.first) (nat_lt range.last x) (not (x == 32))) v _ long other r found
+
+  few : r ≤ 32
+  few =
+      omega (
+        arith,
+        counted,
+        prefix_len-le-length (λ x. not (is_other range x)) (take 32 bytes),
+        length-chunk 0 32 bytes room,
+      )
+
+pub ones_below-inked-requires : goal.ones_below-inked-requires
+ones_below-inked-requires c = few c.args.range c.args.bytes.now c.requires.room c.first_set-all.result c.first_set-all.ensures
 
 pub returns-clause-short : goal.returns-clause-short
-returns-clause-short c =
-    omega (
-      arith,
-      counted c,
-      prefix_len-le-length (λ x. not (is_other c.args.range x)) (take 32 c.args.bytes.now),
-      length-chunk 0 32 c.args.bytes.now c.requires.room,
-    )
+returns-clause-short c = few c.args.range c.args.bytes.now c.requires.room c.first_set-all.result c.first_set-all.ensures
 
 pub returns-clause-known : goal.returns-clause-known
 returns-clause-known c =
-    λ others. subst (λ (n : ℕ). CanGoIn (c.args.range ∷ others) (take n c.args.bytes.now)) (sym (counted c))
+    let n = counted c.args.range c.args.bytes.now c.requires.room c.first_set-all.result c.first_set-all.ensures in
+    λ others. subst (λ (n : ℕ). CanGoIn (c.args.range ∷ others) (take n c.args.bytes.now)) (sym n)
     (can_go_before c.args.range others c.requires.text 32 c.args.bytes.now)
+
+pub returns-clause-inked : goal.returns-clause-inked
+returns-clause-inked c =
+    let v : List ℕ = chunk 0 32 c.args.bytes.now in
+    let long : length v ≡ 32 = length-chunk 0 32 c.args.bytes.now c.requires.room in
+    let no_space = zip2_splat (λ (a b : ℕ). set (not (a == b))) v 32 32 long in
+    let n = c.first_set-all.result in
+    let most : n ≤ 32 = few c.args.range c.args.bytes.now c.requires.room n c.first_set-all.ensures in
+    c.ones_below-inked.ensures ∙ inked_below v _ long no_space n ∙ ap inked_count (take-take n 32 c.args.bytes.now most)

@@ -8,7 +8,7 @@ use Rattle.pcl_lexer.specs.Lexing.FirstView.{context_view}
 use Rattle.pcl_lexer.specs.Lexing.Meaning.{answer_of_row}
 use Rattle.pcl_lexer.specs.Lexing.State.{LexerState}
 use Rattle.pcl_lexer.specs.Lexing.Answers.{Answers}
-use Rattle.pcl_lexer.proofs.Lexing.Stepped.{standing, row_is_answer, row_counts}
+use Rattle.pcl_lexer.proofs.Lexing.Stepped.{standing, row_is_answer}
 use Rattle.pcl_lexer.proofs.Lexing.Steps.{is_next}
 use Rattle.pcl_lexer.proofs.lexer.Lexer.next_row.Goals as goal
 
@@ -19,7 +19,8 @@ returns g c =
     let window : List ℕ = l.window.items in
     let held = vec_len l.window in
     let row : PlacedRow = record { place = c.place-place.result; lent = c.data_before-lent.result } in
-    let new : LexerState = standing window (l.at + read.len) l.dropped (context_view read.next) l.ended held in
+    let new : LexerState = standing window (l.at + read.len) l.dropped (context_view l.context) l.ended held in
+    let next : context_view read.next ≡ context_view l.context = c.in-Some.ensures.2 ∙ sym (ap context_view c.in-Pcl.is) in
     let place : c.place-place.result ≡ l.dropped + l.at = c.place-place.ensures in
     let first : IsAheadWithData read Pcl (drop l.at window) =
     subst (λ (bytes : List ℕ). IsAheadWithData read Pcl bytes) c.unread.ensures c.in-Some.ensures.1 in
@@ -30,19 +31,21 @@ returns g c =
     subst (λ (old : LexerState). Answers old (answer_of_row row) new) c.self.view_is
     (subst (λ (context : Context). Answers (standing window l.at l.dropped context l.ended held) (answer_of_row row) new)
     (sym (ap context_view c.in-Pcl.is))
-    (row_is_answer window l.at l.dropped l.ended held read row c.in-Some.ensures.0 first place there)) in
+    (subst
+    (λ (context : Context). Answers (standing window l.at l.dropped Pcl l.ended held) (answer_of_row row)
+    (standing window (l.at + read.len) l.dropped context l.ended held))
+    next (row_is_answer window l.at l.dropped l.ended held read row c.in-Some.ensures.0 first place there))) in
     ((refl, λ _. tt, (is_next _ _ _ exact, sym (ap (λ (s : LexerState). s.context) c.self.view_is) ∙ ap context_view c.in-Pcl.is)), tt)
 
-pub invariant_of-self-4 : goal.invariant_of-self-4
-invariant_of-self-4 g c =
+pub invariant_of-self-3 : goal.invariant_of-self-3
+invariant_of-self-3 g c =
     let l = c.self.inside in
     let read = c.in-Some.read in
     let window : List ℕ = l.window.items in
     let first : IsAheadWithData read Pcl (drop l.at window) =
     subst (λ (bytes : List ℕ). IsAheadWithData read Pcl bytes) c.unread.ensures c.in-Some.ensures.1 in
-    let counts = row_counts (drop l.at window) read first in
     let before = c.self.invariant in
-    (omega (arith, first.1.0, length-drop l.at window, before.0), before.1, before.2, omega (arith, counts, before.3))
+    (omega (arith, first.1.0, length-drop l.at window, before.0), before.1, before.2, omega (arith, before.3))
 
 pub data_before-lent-requires-clause-inside : goal.data_before-lent-requires-clause-inside
 data_before-lent-requires-clause-inside g c =
