@@ -10,7 +10,7 @@ use Rattle.preflight.proofs.checking.Checking.execute_down.Given as goal
 
 abbrev pub invariant-loop-read : goal.invariant-loop-read
 invariant-loop-read g l = record {
-  draws : FirstDraws l.bounds.now (machines_of l.self.machines);
+  draws : FirstDraws l.bounds (machines_of l.self.machines);
   goes : CheckGoesOn l.initial.self l.self;
   down : l.self.lexer.context ≡ Numbered (Even Down) Straight 0;
 }
