@@ -34,7 +34,8 @@ module _ (range : CodeRange) (bytes : List ℕ) (room : 32 ≤ length bytes) (r 
       let behind = zip2_splat (λ (a b : ℕ). (a + (2 ^ 8 - b)) % 2 ^ 8) v 32 range.first long in
       let no_space = zip2_splat (λ (a b : ℕ). set (not (a == b))) v 32 32 long in
       let outside =
-      zip2_of_maps (λ (a b : ℕ). set (nat_lt a b)) (λ (x : ℕ). span) (λ (x : ℕ). from_first range x) v (splat_is_map v 32 span long) behind in
+      zip2_of_maps (λ (a b : ℕ). set (nat_lt a b)) (λ (x : ℕ). span) (λ (x : ℕ). from_first range x) v
+      (splat_is_map v 32 span long) behind in
       let other =
       zip2_of_maps bit_and (λ (x : ℕ). set (nat_lt span (from_first range x))) (λ x. set (not (x == 32))) v outside no_space in
       before_first (is_other range) (λ x. bit_and (set (nat_lt span (from_first range x))) (set (not (x == 32))))
