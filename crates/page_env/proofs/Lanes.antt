@@ -1,7 +1,6 @@
 -- Text that is looked at in lanes.
-use Rattle.std.proofs.Common.{◌≡◌, ℕ, zero, suc, ◌+◌, ◌-◌, ◌*◌, ◌/◌, ◌≤◌, ◌%◌, ◌^◌, ◌==◌, Bool, true, false, not}
-use Rattle.std.proofs.Common.{◌&&◌, ◌||◌, cond, List, [], ◌∷◌}
-use Rattle.std.proofs.Common.{◌++◌, map, length, take, drop, bit_and, bit_or, refl, sym, ap, ap₂, subst, ◌∙◌, arith}
+use Rattle.std.proofs.Common.{◌≡◌, ℕ, zero, suc, ◌+◌, ◌-◌, ◌*◌, ◌/◌, ◌≤◌, ◌<◌, ◌%◌, ◌^◌, ◌==◌, Bool, true, false, not, ◌&&◌, cond, List, []}
+use Rattle.std.proofs.Common.{◌∷◌, ◌++◌, map, length, take, drop, bit_and, get_or, Fits, w8, refl, sym, ap, ap₂, subst, ◌∙◌, arith}
 use Rattle.std.specs.Prelude.{nat_lt, count_ones}
 use Rattle.std.specs.List.{prefix_len}
 use Rattle.std.proofs.Math.Arith.{mod-mul}
@@ -18,16 +17,12 @@ use Rattle.page_env.specs.Lanes.{first_set}
 use Rattle.page_env.specs.TextLines.{CanGoIn, inked_count}
 use Rattle.page_env.proofs.TextGoes.{space_or_in}
 
--- a lane where one of two tests is met, and a third
-pub tops : (a b c : Bool) → top 7 (bit_and (bit_or (cond a 255 0) (cond b 255 0)) (cond c 255 0)) ≡ ((a || b) && c)
-tops true true true = refl
-tops true true false = refl
-tops true false true = refl
-tops true false false = refl
-tops false true true = refl
-tops false true false = refl
-tops false false true = refl
-tops false false false = refl
+-- a lane where two tests are met
+pub tops : (a b : Bool) → top 7 (bit_and (cond a 255 0) (cond b 255 0)) ≡ (a && b)
+tops true true = refl
+tops true false = refl
+tops false true = refl
+tops false false = refl
 
 same_at_each : (f g : ℕ → Bool) → ((x : ℕ) → f x ≡ g x) → (xs : List ℕ) → map f xs ≡ map g xs
 same_at_each f g is [] = refl
@@ -42,28 +37,35 @@ before_first p f is v z long lanes r found =
     ap (λ l. mask_l l % 2 ^ 64) set ∙ mask_l-mod (map p v) 64 (omega (arith, length-map v p, long)) in
     found ∙ ap (λ m. first_set m 32) mask ∙ first_set_mask_l p v 32 long (omega arith)
 
+-- how far a byte is from the first of a range, where those before it come last
+abbrev pub from_first : CodeRange → ℕ → ℕ
+from_first range x = (x + (2 ^ 8 - range.first)) % 2 ^ 8
+
 -- a byte outside of a range that is no space
 abbrev pub is_other : CodeRange → ℕ → Bool
-is_other range x = (nat_lt x range.first || nat_lt range.last x) && not (x == 32)
+is_other range x = nat_lt (range.last - range.first) (from_first range x) && not (x == 32)
 
-no_other_is_text : (range : CodeRange) (others : List CodeRange) (x : ℕ) → 32 ≤ range.first → not (is_other range x) ≡ true →
-    is_text_of (range ∷ others) x ≡ true
-no_other_is_text range others x least e = space_or_in range others x least (grind (arith, nat_tests, e))
+no_other_is_text : (range : CodeRange) (others : List CodeRange) (x : ℕ) → 32 ≤ range.first → range.first ≤ range.last →
+    range.last < 2 ^ 8 → x < 2 ^ 8 → not (is_other range x) ≡ true → is_text_of (range ∷ others) x ≡ true
+no_other_is_text range others x least some fits small e = space_or_in range others x least (grind (arith, nat_tests, e, some, fits, small))
 
-pub can_go_before : (range : CodeRange) (others : List CodeRange) → 32 ≤ range.first → (n : ℕ) (bytes : List ℕ) →
-    CanGoIn (range ∷ others) (take (prefix_len (λ x. not (is_other range x)) (take n bytes)) bytes)
-can_go_before range others least zero bytes = tt
-can_go_before range others least (suc n) [] = tt
-can_go_before range others least (suc n) (x ∷ bytes) = by (not (is_other range x)) refl (can_go_before range others least n bytes)
-  where
-    by : (b : Bool) → not (is_other range x) ≡ b →
-        CanGoIn (range ∷ others) (take (prefix_len (λ x. not (is_other range x)) (take n bytes)) bytes) →
-        CanGoIn (range ∷ others) (take (cond b (1 + prefix_len (λ x. not (is_other range x)) (take n bytes)) 0) (x ∷ bytes))
-    by true e h =
-        let k = prefix_len (λ x. not (is_other range x)) (take n bytes) in
-        let next : suc k ≡ 1 + k = omega arith in
-        subst (λ (m : ℕ). CanGoIn (range ∷ others) (take m (x ∷ bytes))) next (no_other_is_text range others x least e, h)
-    by false e h = tt
+module _ (range : CodeRange) (others : List CodeRange) (least : 32 ≤ range.first) (some : range.first ≤ range.last)
+    (fits : range.last < 2 ^ 8) where
+  pub can_go_before : (n : ℕ) (bytes : List ℕ) → ((k : ℕ) → Fits w8 (get_or bytes k 0)) →
+      CanGoIn (range ∷ others) (take (prefix_len (λ x. not (is_other range x)) (take n bytes)) bytes)
+  can_go_before zero bytes small = tt
+  can_go_before (suc n) [] small = tt
+  can_go_before (suc n) (x ∷ bytes) small = by (not (is_other range x)) refl (can_go_before n bytes (λ k. small (suc k)))
+    where
+      by : (b : Bool) → not (is_other range x) ≡ b →
+          CanGoIn (range ∷ others) (take (prefix_len (λ x. not (is_other range x)) (take n bytes)) bytes) →
+          CanGoIn (range ∷ others) (take (cond b (1 + prefix_len (λ x. not (is_other range x)) (take n bytes)) 0) (x ∷ bytes))
+      by true e h =
+          let k = prefix_len (λ x. not (is_other range x)) (take n bytes) in
+          let next : suc k ≡ 1 + k = omega arith in
+          subst (λ (m : ℕ). CanGoIn (range ∷ others) (take m (x ∷ bytes))) next
+          (no_other_is_text range others x least some fits (small 0).fits e, h)
+      by false e h = tt
 
 -- ---- bytes that are no spaces
 

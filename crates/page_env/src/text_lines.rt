@@ -391,6 +391,7 @@ fn ones_below(mask: u64, bits: usize) -> u64
 #[inline(always)]
 fn text_of_range(range: CodeRange, bytes: &[u8]) -> TextCount
     requires text { 32 ≤ range.first }
+    requires some { range.first ≤ range.last }
     requires room { LANES ≤ length bytes.now }
     ensures short { result.all ≤ LANES }
     ensures known { (others : List CodeRange) →
@@ -398,8 +399,9 @@ fn text_of_range(range: CodeRange, bytes: &[u8]) -> TextCount
     ensures inked { result.inked ≡ inked_count (take result.all bytes.now) }
 {
     let lanes = u8x32::from_slice(bytes);
-    let outside = lanes.simd_lt(u8x32::splat(range.first))
-        | lanes.simd_gt(u8x32::splat(range.last));
+    // What comes before the first wraps past the last.
+    let from_first = lanes - u8x32::splat(range.first);
+    let outside = from_first.simd_gt(u8x32::splat(range.last - range.first));
     let inked = lanes.simd_ne(u8x32::splat(b' '));
     let others = outside & inked;
     let all = first_set(others.to_bitmask(), LANES);
@@ -420,7 +422,7 @@ fn text_of_first_range<A: Allocator>(face: &FontRow<A>, bytes: &[u8]) -> TextCou
         return known;
     };
     let range = *range;
-    if range.first < b' ' {
+    if range.first < b' ' || range.last < range.first {
         return known;
     }
     for _ in 0..MOST_AT_ONCE / LANES {

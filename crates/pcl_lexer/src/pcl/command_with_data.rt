@@ -37,7 +37,7 @@ pub fn with_data_in(context: Context, bytes: &[u8]) -> Option<ReadWithData>
     }
 }
 
-/// The row of a raster that stands first in the bytes in mode PCL, if it is spelled in short,
+/// The row of a raster that stands first in the bytes in mode PCL, if its number is a short one,
 /// unless they begin with something else.
 // It does what `with_data_in` does, for one group alone, and looks for none but short numbers.
 #[inline(always)]
