@@ -15,6 +15,8 @@ import tree
 # How many crates are proved beside the one of the chain, and for how many processors that is.
 BESIDE = 2
 PROCESSORS = 4
+# How much memory they may need, in KiB.
+MEMORY = 16_000_000
 # What `rt` says where it can keep nothing: each run would prove all that lies below anew.
 KEEPS_NOTHING = "so nothing is kept"
 
@@ -22,7 +24,7 @@ KEEPS_NOTHING = "so nothing is kept"
 def is_for_this_machine() -> bool:
     """Whether nobody said how many checks may run, and there are processors and memory for it."""
     return (not os.environ.get("RT_JOBS") and (os.cpu_count() or 1) >= PROCESSORS
-            and tree.free_memory() >= tree.PLENTY)
+            and tree.free_memory() >= MEMORY)
 
 
 class Proving:

@@ -19,8 +19,9 @@ ROOT = Path(__file__).resolve().parent.parent
 TRIED = ROOT / ".ci" / "edits_tried.txt"
 # What a copy of the tree is without.
 LEFT_OUT = ("out", "dist", ".git", "__pycache__", "must-fail")
-# With so much memory free, in KiB, rt's own estimate lets large crates be proved side by side.
-PLENTY = 16_000_000
+# With so much memory free, in KiB, rt's own estimate lets large crates be proved side by side: it
+# is some three times what they take.
+PLENTY = 40_000_000
 # What an edit's verdict is kept for: what is stated and what is edited. Proofs may change below it.
 JUDGED = ("src", "specs", "must-fail")
 
