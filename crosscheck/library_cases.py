@@ -2,6 +2,7 @@
 
 from pathlib import Path
 from random import Random
+from string import ascii_letters
 from typing import Dict, List, NamedTuple, Tuple
 
 import jobs
@@ -9,9 +10,15 @@ from commands import FIELDS
 from examples import profile_text
 
 ROOT = Path(__file__).resolve().parent.parent
-# What the library takes; the words that the program reads as one of these are `runs.py`'s.
-CODES = (b"", b"commands", b"12", b"Unset", b"nopen", b"36", b"113", b"OpenStart", b"0", b"&lP",
-         b"&l#P", b"HT", b"x09", b"SC", b"paper source (&l#H)", b"no such code")
+# What they mean, `runs.py` has.
+CODES = ("", "commands", "12", "Unset", "nopen", "36", "113", "OpenStart", "0", "&lP", "&l#P", "HT",
+         "x09", "SC", "paper source (&l#H)", "no such code", "items", "12 Unset(Size)", "12 Unset",
+         "Unset(Size)", "&f0S", "ESC &l66p", "\\x1b&f0S", "(s0p", "(8U", ")8U", "*b2m", "%0A", "  ")
+# The parts of a command in a job, its letter behind them.
+FRONTS = ("", "", "ESC ", "\\x1b", "\x1b")
+INTRODUCERS = ("&", "*", "(", ")", "%", "!", "0")
+GROUPS = ("", "a", "b", "c", "d", "f", "k", "l", "p", "r", "s", "t", "u", "v", "z")
+VALUES = ("", "", "#", "0", "1", "2", "10", "66", "-1.5", "+3", "1x", "ü")
 # Some have bytes that texts escape.
 NAMES = ("job", "job", "a job.pcl", "#1", "Größe.pcl", "a\tb", "back\\slash", "a<b>&\"c\"")
 # In the order of their numbers in `struct pclcheck_panel_value`.
@@ -42,9 +49,16 @@ def asked(number: int, told: str, job: bytes, printers: List[bytes],
           panel: Dict[str, int]) -> Case:
     """A case with a code, a name and a page that its number tells."""
     random = Random(number)
-    return Case(number, told, job, tuple(printers), CODES[number % len(CODES)],
+    code = CODES[number % len(CODES)] if random.random() < 0.6 else code_in_job(random)
+    return Case(number, told, job, tuple(printers), code.encode(),
                 NAMES[number % len(NAMES)], random.choice([1, 1, 1, 2, 3]),
                 panel or panel_of(random, printers[0]))
+
+
+def code_in_job(random: Random) -> str:
+    """A command as people copy it from a job, if there is one."""
+    parts = [random.choice(words) for words in (FRONTS, INTRODUCERS, GROUPS, VALUES)]
+    return "".join(parts) + random.choice(ascii_letters + "@")
 
 
 def panel_of(random: Random, profile: bytes) -> Dict[str, int]:

@@ -86,8 +86,9 @@ struct pclcheck_session {
 uint32_t pclcheck_version(uint8_t *text, size_t room, size_t *needed);
 
 /* Puts what is known of a code, as `pclcheck explain CODE` writes it: the number or the name of a
- * fault, a finding or a note, or a command by its key, its spelling or its name; of the code
- * `commands` a list of the commands, and of an empty code all explanations.
+ * fault, a finding or a note, or both as a line has them, or a command by its key, its spelling,
+ * its bytes in a job behind ESC or its name; of the code `commands` a list of the commands, and of
+ * an empty code all explanations.
  *
  * Answers: DONE, ROOM, MEMORY, UNKNOWN where nothing has this number or name. */
 uint32_t pclcheck_explain(const uint8_t *code, size_t code_length, uint8_t *text, size_t room,

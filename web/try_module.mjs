@@ -18,7 +18,8 @@ import { Failure, open } from "./module.js";
 
 const EXAMPLES = join(dirname(fileURLToPath(import.meta.url)), "..", "examples");
 const PROFILES = ["front_desk", "back_office", "export_desk", "dispatch"];
-const CODES = ["", "12", "Unset", "102", "&lP", "HT", "commands", "nothing"];
+const CODES = ["", "12", "Unset", "102", "&lP", "HT", "commands", "nothing", "items", "12 Unset(Size)",
+  "Unset(Size)", "&f0S", "ESC &l66p", "\\x1b&f0S", "(s0p", "(8U", "*b2m", "  "];
 /** A listed item is near a place where it begins so many bytes before or behind. */
 const [BEFORE, BEHIND] = [40, 16];
 

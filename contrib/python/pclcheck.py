@@ -414,8 +414,9 @@ def version() -> str:
 
 
 def explain(code: Union[int, str] = "") -> str:
-    """What a number or a name of a finding or a note, or a command of printers, means; of
-    `commands` the list of these, and of nothing all that findings and notes mean. Raises Unknown.
+    """What a number or a name of a finding or a note, or a command of printers, means, as a line
+    or a job has it; of `commands` the list of these, and of nothing all that findings and notes
+    mean. Raises Unknown.
     """
     return _text("pclcheck_explain", *_bytes(str(code).encode())).decode()
 

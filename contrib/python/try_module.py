@@ -102,7 +102,9 @@ def try_threads(folder: Path, fleet: pclcheck.Fleet) -> None:
 
 def main(program: str, folder: Path) -> None:
     assert written(program, folder, "--version") == f"pclcheck {pclcheck.version()}\n"
-    assert pclcheck.explain(12) == written(program, folder, "explain", "12")
+    for code in ("12", "12 Unset(Size)", "&f0S"):
+        assert pclcheck.explain(code) == written(program, folder, "explain", code)
+    assert pclcheck.explain(12) == pclcheck.explain("12")
     with pclcheck.Fleet.of_files(*(folder / name for name in PROFILES)) as fleet:
         for path in sorted(folder.glob("*.pcl")):
             try_job(program, folder, fleet, path.name)

@@ -2,7 +2,6 @@
 #![tactic(auto)]
 
 mod check_words;
-mod code_words;
 mod commands;
 mod compare_words;
 mod form_words;

@@ -1,8 +1,9 @@
 //! Rows of which the command line is built: its commands, and what each takes.
 
-use clap::builder::ValueParser;
+use clap::builder::{ValueParser, ValueRange};
 use clap::{Arg, ArgAction, Command};
 use std::alloc::{AllocError, Global};
+use std::slice;
 
 /// A command.
 pub(crate) struct CommandRow {
@@ -91,73 +92,102 @@ impl CommandRow {
         alloc: Global,
         explanation: &'static str,
     ) -> Result<Command<'a>, AllocError> {
-        let command = Command::new(alloc, self.name)
+        let mut args = Vec::new(alloc);
+        push_words(&mut args, alloc, self.words)?;
+        push_options(&mut args, alloc, self.options)?;
+        Command::new(alloc, self.name)
             .about(self.about)
-            .after_help(explanation);
-        let command = with_words(alloc, command, self.words)?;
-        with_options(alloc, command, self.options)
+            .after_help(explanation)
+            .args(args)
     }
 }
 
-fn with_words<'a>(
+fn push_words<'a>(
+    args: &mut Vec<Arg<'a>>,
     alloc: Global,
-    mut command: Command<'a>,
-    rows: &[WordRow],
-) -> Result<Command<'a>, AllocError> {
+    rows: &'a [WordRow],
+) -> Result<(), AllocError> {
     for row in rows {
-        command = with_arg(command, row.arg(alloc))?;
+        args.push(row.arg(alloc)?)?;
     }
-    Ok(command)
+    Ok(())
 }
 
-fn with_options<'a>(
+fn push_options<'a>(
+    args: &mut Vec<Arg<'a>>,
     alloc: Global,
-    mut command: Command<'a>,
-    rows: &[OptionRow],
-) -> Result<Command<'a>, AllocError> {
+    rows: &'a [OptionRow],
+) -> Result<(), AllocError> {
     for row in rows {
-        command = with_arg(command, row.arg(alloc))?;
+        args.push(row.arg(alloc)?)?;
     }
-    Ok(command)
+    Ok(())
 }
 
-/// A command with one more word or option.
-fn with_arg<'a>(
-    command: Command<'a>,
-    arg: Result<Arg<'a>, AllocError>,
-) -> Result<Command<'a>, AllocError> {
-    command.arg(arg?)
-}
+// An argument is large, and a proof takes long over each place where it may go one way or another:
+// so what differs is chosen first, and the argument made of that by one call after another.
 
 impl WordRow {
-    fn arg<'a>(&self, alloc: Global) -> Result<Arg<'a>, AllocError> {
-        let arg = Arg::new(alloc, self.id).help(self.help);
-        with_need(with_count(arg, &self.count), &self.need)
+    fn arg<'a>(&'a self, alloc: Global) -> Result<Arg<'a>, AllocError> {
+        Arg::new(alloc, self.id)
+            .help(self.help)
+            .action(self.count.action())
+            .num_args(self.count.number())
+            .value_names(self.count.names())
+            .required(self.need.is_always())
+            .required_unless_present_any(self.need.others())
     }
 }
 
-fn with_count<'a>(arg: Arg<'a>, count: &Count) -> Arg<'a> {
-    match count {
-        Count::One => arg.action(ArgAction::Set),
-        Count::Several(name) => arg.action(ArgAction::Append).num_args(1..).value_name(name),
+impl Need {
+    fn is_always(&self) -> bool {
+        matches!(self, Need::Always)
+    }
+
+    /// The options of which one has to come where the word does not.
+    fn others(&self) -> &'static [&'static str] {
+        match self {
+            Need::Unless(options) => *options,
+            _ => &[],
+        }
     }
 }
 
-fn with_need<'a>(arg: Arg<'a>, need: &Need) -> Result<Arg<'a>, AllocError> {
-    match need {
-        Need::Always => Ok(arg.required(true)),
-        Need::Never => Ok(arg),
-        Need::Unless(options) => arg.required_unless_present_any(options),
+impl Count {
+    fn action(&self) -> ArgAction {
+        match self {
+            Count::One => ArgAction::Set,
+            Count::Several(_) => ArgAction::Append,
+        }
+    }
+
+    fn number(&self) -> ValueRange {
+        match self {
+            Count::One => ValueRange::SINGLE,
+            Count::Several(_) => ValueRange::new(1..),
+        }
+    }
+
+    /// What help calls each word, where that is not the row's id.
+    fn names(&self) -> &[&'static str] {
+        match self {
+            Count::One => &[],
+            Count::Several(name) => slice::from_ref(name),
+        }
     }
 }
 
 impl OptionRow {
-    fn arg<'a>(&self, alloc: Global) -> Result<Arg<'a>, AllocError> {
+    fn arg<'a>(&'a self, alloc: Global) -> Result<Arg<'a>, AllocError> {
         let arg = Arg::new(alloc, self.id).long(self.long).help(self.help);
-        let arg = with_value(with_short(arg, self.short), &self.value);
-        match self.excludes {
-            Some(other) => arg.conflicts_with(other),
-            None => Ok(arg),
+        with_value(with_short(arg, self.short), &self.value).conflicts_with_all(self.excluded())
+    }
+
+    /// What may not come beside the option.
+    fn excluded(&self) -> &[&'static str] {
+        match &self.excludes {
+            Some(other) => slice::from_ref(other),
+            None => &[],
         }
     }
 }
@@ -169,37 +199,68 @@ fn with_short<'a>(arg: Arg<'a>, short: Option<char>) -> Arg<'a> {
     }
 }
 
-fn with_value<'a>(arg: Arg<'a>, value: &Value) -> Arg<'a> {
-    match value {
-        Value::Nothing => arg.action(ArgAction::SetTrue),
-        Value::Text(name) => with_text(arg, name),
-        Value::Folder(name) => with_text(arg, name).value_parser(ValueParser::NonEmptyString),
-        Value::EachText(name) => arg.action(ArgAction::Append).value_name(name),
-        Value::List(name) => with_text(arg, name).value_delimiter(','),
-        Value::ListOf { name, words } => list_of(arg, name, words),
-        Value::Number(name, least) => {
-            with_text(arg, name).value_parser(ValueParser::Unsigned(*least, u64::MAX))
-        }
-        Value::OneOf { words, usual } => one_of(arg, words, *usual),
+fn with_value<'a>(arg: Arg<'a>, value: &'a Value) -> Arg<'a> {
+    let arg = arg
+        .action(value.action())
+        .value_names(value.names())
+        .value_parser(value.parser())
+        .default_values(value.usual());
+    with_commas(arg, value.is_list())
+}
+
+fn with_commas<'a>(arg: Arg<'a>, is_list: bool) -> Arg<'a> {
+    if is_list {
+        arg.value_delimiter(',')
+    } else {
+        arg
     }
 }
 
-fn with_text<'a>(arg: Arg<'a>, name: &'a str) -> Arg<'a> {
-    arg.action(ArgAction::Set).value_name(name)
-}
+impl Value {
+    fn action(&self) -> ArgAction {
+        match self {
+            Value::Nothing => ArgAction::SetTrue,
+            Value::EachText(_) => ArgAction::Append,
+            _ => ArgAction::Set,
+        }
+    }
 
-fn list_of<'a>(arg: Arg<'a>, name: &'a str, words: &'a [&'a str]) -> Arg<'a> {
-    with_text(arg, name)
-        .value_delimiter(',')
-        .value_parser(ValueParser::Names(words))
-}
+    /// What help calls the value.
+    fn names(&self) -> &[&'static str] {
+        match self {
+            Value::Text(name)
+            | Value::Folder(name)
+            | Value::EachText(name)
+            | Value::List(name)
+            | Value::ListOf { name, .. }
+            | Value::Number(name, _) => slice::from_ref(name),
+            Value::Nothing | Value::OneOf { .. } => &[],
+        }
+    }
 
-fn one_of<'a>(arg: Arg<'a>, words: &'a [&'a str], usual: Option<&'a str>) -> Arg<'a> {
-    let arg = arg
-        .action(ArgAction::Set)
-        .value_parser(ValueParser::Names(words));
-    match usual {
-        Some(word) => arg.default_value(word),
-        None => arg,
+    /// What the value, or each of a list, has to be.
+    fn parser(&self) -> ValueParser<'static> {
+        match self {
+            Value::Nothing => ValueParser::Bool,
+            Value::Folder(_) => ValueParser::NonEmptyString,
+            Value::Number(_, least) => ValueParser::Unsigned(*least, u64::MAX),
+            Value::ListOf { words, .. } | Value::OneOf { words, .. } => ValueParser::Names(*words),
+            Value::Text(_) | Value::EachText(_) | Value::List(_) => ValueParser::String,
+        }
+    }
+
+    /// The value where the option does not come.
+    fn usual(&self) -> &[&'static str] {
+        match self {
+            Value::OneOf {
+                usual: Some(word),
+                ..
+            } => slice::from_ref(word),
+            _ => &[],
+        }
+    }
+
+    fn is_list(&self) -> bool {
+        matches!(self, Value::List(_) | Value::ListOf { .. })
     }
 }

@@ -7,7 +7,6 @@ ghost use Rattle.requests.specs.Comparisons.{reads_job, reads_printer};
 ghost use Rattle.requests.specs.Words.{KeepsWhatItReads, NamesSome};
 
 use crate::check_words::check_request;
-use crate::code_words::code_asked;
 use crate::commands::{CommandName, command, command_asked};
 use crate::compare_words::compare_request;
 use crate::form_words::form_asked;
@@ -21,7 +20,7 @@ use crate::word::{Word, first_stand_in, first_without_text, is_stand_in, without
 use clap::ArgMatches;
 use clap::error::ErrorKind;
 use requests::{CompareWords, ComparedJobs, Form, Input, ManyWords, Request, Status, write_pieces};
-use std::alloc::Global;
+use std::alloc::{AllocError, Global};
 use std::convert::AsStr;
 use streams::{Error, Outlet, write_text};
 
@@ -63,26 +62,66 @@ pub fn read_words<'a, O: Outlet, E: Outlet>(
         stderr.new ≡ stderr.old }
     ensures words { result ≡ Err Status.Usage → stdout.new ≡ stdout.old }
 {
-    let Ok(command) = command(alloc) else {
-        return Err(Status::Stopped(Error::Memory));
-    };
-    let matches = match command.try_get_matches_from(words) {
-        Ok(matches) => matches,
-        Err(error) => return Err(end_words(alloc, &error, words, stdout, stderr)),
-    };
+    let matches = matches_of(alloc, words, stdout, stderr)?;
     let form = form_asked(&matches).unwrap_or(usual);
-    let request = match request_of(alloc, words, form, &matches) {
-        Ok(Some(request)) => request,
-        Ok(None) => return Err(Status::Usage),
-        Err(fault) => return Err(refuse_choices(alloc, &fault, stderr)),
-    };
-    if let Some(word) = misplaced(words, &request) {
-        return Err(refuse_word(alloc, word, stderr));
-    }
+    let request = sound_request(alloc, words, form, &matches, stderr)?;
     let form = form_of_answer(form, &request);
     match overwritten(&request) {
         Some(input) => Err(Status::Overwrites(input)),
         None => Ok(Asked { request, form }),
+    }
+}
+
+/// What `clap` reads of the words. Where they ask for help or for the version, or are wrong, that
+/// is written.
+fn matches_of<'a, O: Outlet, E: Outlet>(
+    alloc: Global,
+    words: &'a [Word],
+    stdout: &mut O,
+    stderr: &mut E,
+) -> Result<ArgMatches<'a>, Status>
+    requires stdout { IsFalse (O.state stdout.old).failed }
+    requires stderr { IsFalse (E.state stderr.old).failed }
+    ensures ok { OnOk result ((stdout.new ≡ stdout.old) × (stderr.new ≡ stderr.old)) }
+    ensures err { IfErr result IsEndOfWords }
+    ensures help { result ≡ Err Status.Help → stderr.new ≡ stderr.old }
+    ensures quiet { IsFalse (E.state stderr.new).failed → result ≢ Err Status.Usage →
+        stderr.new ≡ stderr.old }
+    ensures words { result ≡ Err Status.Usage → stdout.new ≡ stdout.old }
+{
+    let Ok(command) = command(alloc) else {
+        return Err(Status::Stopped(Error::Memory));
+    };
+    match command.try_get_matches_from(words) {
+        Ok(matches) => Ok(matches),
+        Err(error) => Err(end_words(alloc, &error, words, stdout, stderr)),
+    }
+}
+
+/// The request of words that `clap` takes. Where it cannot be carried out, the reason is written.
+fn sound_request<'a, E: Outlet>(
+    alloc: Global,
+    words: &'a [Word],
+    usual: Form,
+    matches: &ArgMatches<'a>,
+    stderr: &mut E,
+) -> Result<Request<'a>, Status>
+    requires { IsFalse (E.state stderr.old).failed }
+    ensures ok { OnOk result (stderr.new ≡ stderr.old) }
+    ensures some { IfOk result NamesSome }
+    ensures err { IfErr result IsEndOfWords }
+    ensures no_help { result ≢ Err Status.Help }
+    ensures quiet { IsFalse (E.state stderr.new).failed → result ≢ Err Status.Usage →
+        stderr.new ≡ stderr.old }
+{
+    let request = match request_of(alloc, words, usual, matches) {
+        Ok(Some(request)) => request,
+        Ok(None) => return Err(Status::Usage),
+        Err(fault) => return Err(refuse_choices(alloc, &fault, stderr)),
+    };
+    match misplaced(words, &request) {
+        Some(word) => Err(refuse_word(alloc, word, stderr)),
+        None => Ok(request),
     }
 }
 
@@ -268,6 +307,16 @@ fn request_of<'a>(
     if let Some(found) = matches.subcommand_matches("compare") {
         return compare_request(alloc, usual, found);
     }
+    request_of_page(alloc, matches)
+}
+
+/// The request of words that are right, where they name none of the commands on many jobs.
+fn request_of_page<'a>(
+    alloc: Global,
+    matches: &ArgMatches<'a>,
+) -> Result<Option<Request<'a>>, ChoiceFault<'a>>
+    ensures { IfOk result (λ request. IfSome request NamesSome) }
+{
     if let Some(found) = matches.subcommand_matches("pin") {
         return pin_request(alloc, found);
     }
@@ -277,12 +326,22 @@ fn request_of<'a>(
     if let Some(found) = matches.subcommand_matches("pdf") {
         return pdf_request(alloc, found);
     }
+    Ok(request_of_text(alloc, matches)?)
+}
+
+/// The request of words that are right, where they name none of the commands that take `--panel`.
+fn request_of_text<'a>(
+    alloc: Global,
+    matches: &ArgMatches<'a>,
+) -> Result<Option<Request<'a>>, AllocError>
+    ensures { IfOk result (λ request. IfSome request NamesSome) }
+{
     if let Some(found) = matches.subcommand_matches("explain") {
-        let code = code_asked(found);
+        let code = found.get_str("CODE");
         return Ok(Some(Request::Explain { code }));
     }
     if let Some(found) = matches.subcommand_matches("profile") {
-        return Ok(profile_request(alloc, found)?);
+        return profile_request(alloc, found);
     }
     Ok(text_request(matches))
 }

@@ -1,6 +1,6 @@
 //! The items of a body.
 
-ghost use Rattle.std.specs.Prelude.{◌≡◌, ◌∷◌, [], IfNone, IfSome, MatchOption};
+ghost use Rattle.std.specs.Prelude.{◌≡◌, ◌∷◌, [], IfNone, IfSome, IsTrue, MatchOption};
 ghost use Rattle.pcl_items.specs.Items.{simple_view, view as entry_of};
 
 use crate::commands::StoredCommand;
@@ -73,5 +73,12 @@ impl<'a> Body<'a> {
         self.at += len;
         self.commands = others;
         Some(SimpleItem::Parameterized(first.command, first.number))
+    }
+
+    /// Whether another body has the same items still to come.
+    pub fn is_same(&self, other: &Body<'_>) -> bool
+        ensures { IsTrue result → self.now ≡ other.now }
+    {
+        self.mode == other.mode && self.rest == other.rest
     }
 }

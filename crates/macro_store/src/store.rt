@@ -1,7 +1,7 @@
 //! The store.
 
 ghost use Rattle.std.specs.Prelude.{◌≡◌, ◌+◌, ◌<◌, ◌≤◌, ◌↔◌, None, Some, Err, IsSome, is_some};
-ghost use Rattle.std.specs.Prelude.{nat_eq, true, IfOk, OnOk, OnErr, length};
+ghost use Rattle.std.specs.Prelude.{nat_eq, true, [], IfOk, IsTrue, OnOk, OnErr, length};
 ghost use Rattle.std.specs.List.{remove_range};
 ghost use Rattle.std.specs.Map.{lookup, remove_entry};
 ghost use Rattle.indexmap.specs.IndexMap.{spare};
@@ -149,6 +149,13 @@ impl<A: Allocator + Copy> MacroStore<A> {
             definition: self.definition,
             commands,
         })
+    }
+
+    /// Whether no macro is stored.
+    pub fn is_empty(&self) -> bool
+        ensures { IsTrue result → self.now.bodies ≡ [] }
+    {
+        self.spans.is_empty()
     }
 
     /// Whether a definition is open.

@@ -53,7 +53,7 @@ pub(crate) fn read_page<S: Source, A: Allocator + Copy>(
 
 /// The lines of the items near a place of a job, as a list has them. An error is `Read`, `Memory`
 /// or `Turns`.
-pub(crate) fn read_near<S: Source, A: Allocator + Copy>(
+pub fn read_near<S: Source, A: Allocator + Copy>(
     alloc: A,
     job: &mut S,
     place: u64,

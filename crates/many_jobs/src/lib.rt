@@ -24,5 +24,6 @@ pub use fleet_file::read_fleet_file;
 pub use job_objects::push_job_object;
 pub use job_row::is_read_once;
 pub use json_object::Object;
+pub use kept_readings::read_near;
 pub use kept_texts::printer_names;
 pub use telling::{Format, Telling};

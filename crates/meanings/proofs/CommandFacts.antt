@@ -8,8 +8,9 @@ use Rattle.streams.specs.Outlet.{OutletState, Adds, AddsFront}
 use Rattle.streams.specs.Writing.{Writes}
 use Rattle.requests.proofs.Writing.{Writes-cut, pieces_more}
 use Rattle.requests.specs.declared.status.Status.{Status}
-use Rattle.meanings.specs.CommandsTold.{asks_for_list, asks_of, asks_of_commands, is_unheard, list_line, told, told_of_commands}
-use Rattle.meanings.specs.Explanations.{complaint, end_of_explain, explanation, is_unknown}
+use Rattle.meanings.specs.CommandsTold.{asks_for_list, asks_of, asks_of_commands, is_code_unheard, list_line, told_of_code}
+use Rattle.meanings.specs.CommandsTold.{told_of_commands}
+use Rattle.meanings.specs.Explanations.{complaint_of_code, end_of_explain, explanation, is_unknown}
 
 -- ---- the list
 
@@ -58,39 +59,39 @@ module _ (a b : OutletState) (commands : List (List ℕ)) (code : Option (List �
 -- ---- what is told of a code, by whether it asks of commands
 
 module _ (texts commands : List (List ℕ)) (code : Option (List ℕ)) (asks : Bool) (is : asks ≡ asks_of_commands commands code) where
-  pub is_heard : asks ≡ true → is_unheard texts commands code ≡ false
+  pub is_heard : asks ≡ true → is_code_unheard texts commands code ≡ false
   is_heard holds = ap (λ asked. if asked then false else is_unknown texts code) (sym is ∙ holds)
 
-  pub is_unheard_where_unknown : asks ≡ false → is_unheard texts commands code ≡ is_unknown texts code
+  pub is_unheard_where_unknown : asks ≡ false → is_code_unheard texts commands code ≡ is_unknown texts code
   is_unheard_where_unknown fails = ap (λ asked. if asked then false else is_unknown texts code) (sym is ∙ fails)
 
   -- how the command ends
   pub commands_end : asks ≡ true → (failed : Bool) (status : Status) → status ≡ end_of_explain false failed →
-      status ≡ end_of_explain (is_unheard texts commands code) failed
+      status ≡ end_of_explain (is_code_unheard texts commands code) failed
   commands_end holds failed status e = e ∙ ap (λ unheard. end_of_explain unheard failed) (sym (is_heard holds))
 
   pub others_end : asks ≡ false → (failed : Bool) (status : Status) → status ≡ end_of_explain (is_unknown texts code) failed →
-      status ≡ end_of_explain (is_unheard texts commands code) failed
+      status ≡ end_of_explain (is_code_unheard texts commands code) failed
   others_end fails failed status e = e ∙ ap (λ unheard. end_of_explain unheard failed) (sym (is_unheard_where_unknown fails))
 
 module _ (a b : OutletState) (texts commands : List (List ℕ)) (code : Option (List ℕ)) (asks : Bool)
     (is : asks ≡ asks_of_commands commands code) where
-  pub told_commands : asks ≡ true → Writes a b (told_of_commands commands code) → Writes a b (told texts commands code)
+  pub told_commands : asks ≡ true → Writes a b (told_of_commands commands code) → Writes a b (told_of_code texts commands code)
   told_commands holds written =
       subst (λ asked. Writes a b (if asked then told_of_commands commands code else explanation texts code)) (sym holds ∙ is) written
 
   pub told_others : asks ≡ false → (IsFalse (is_unknown texts code) → Writes a b (explanation texts code)) →
-      IsFalse (is_unheard texts commands code) → Writes a b (told texts commands code)
+      IsFalse (is_code_unheard texts commands code) → Writes a b (told_of_code texts commands code)
   told_others fails written heard =
       subst (λ asked. Writes a b (if asked then told_of_commands commands code else explanation texts code)) (sym fails ∙ is)
       (written (subst (λ asked. IsFalse (if asked then false else is_unknown texts code)) (sym is ∙ fails) heard))
 
-  pub commands_are_heard : asks ≡ true → IsTrue (is_unheard texts commands code) → Writes a b (complaint code)
+  pub commands_are_heard : asks ≡ true → IsTrue (is_code_unheard texts commands code) → Writes a b (complaint_of_code code)
   commands_are_heard holds unheard =
       let none : false ≡ true = subst (λ asked. IsTrue (if asked then false else is_unknown texts code)) (sym is ∙ holds) unheard in
       absurd (true≢false (sym none))
 
-  pub others_are_unheard : asks ≡ false → (IsTrue (is_unknown texts code) → Writes a b (complaint code)) →
-      IsTrue (is_unheard texts commands code) → Writes a b (complaint code)
+  pub others_are_unheard : asks ≡ false → (IsTrue (is_unknown texts code) → Writes a b (complaint_of_code code)) →
+      IsTrue (is_code_unheard texts commands code) → Writes a b (complaint_of_code code)
   others_are_unheard fails written unheard =
       written (subst (λ asked. IsTrue (if asked then false else is_unknown texts code)) (sym is ∙ fails) unheard)

@@ -8,7 +8,7 @@ use Rattle.streams.proofs.OutletFacts.{Adds-none}
 use Rattle.streams.specs.Outlet.{OutletState, Adds, AddsFront}
 use Rattle.streams.specs.Writing.{Writes}
 use Rattle.requests.proofs.Writing.{pieces_more, Writes-cut}
-use Rattle.meanings.specs.Explanations.{complaint, explained_by, is_about}
+use Rattle.meanings.specs.Explanations.{complaint_of_code, explained_by, is_about}
 
 -- what is written of one text: all of it, or nothing
 abbrev pub told : (List ℕ → Bool) → List ℕ → List ℕ
@@ -66,7 +66,7 @@ pub Writes-unknown : (a b : OutletState) (code first : List ℕ) → first ≡ c
     Writes a b
     (codes "error: no fault, finding, note or command has the number or the name '"
     ++ (first ++ codes "'; 'pclcheck explain' writes all, 'pclcheck explain commands' lists the commands\n")) →
-    Writes a b (complaint (Some code))
+    Writes a b (complaint_of_code (Some code))
 Writes-unknown a b code first e written =
     subst
     (λ l.
@@ -91,8 +91,8 @@ none_at_all p xs i h before = ap (list_any p) (sym (take_all i xs h)) ∙ before
 
 -- what was told of a code that nothing has
 pub told_unknown : (a b : OutletState) (code : Option (Bor (List ℕ))) (word : Bor (List ℕ)) → code ≡ Some word →
-    Writes a b (complaint (Some word.now)) → Writes a b (complaint (option_map (λ word. word.now) code))
-told_unknown a b code word is written = subst (λ c. Writes a b (complaint (option_map (λ word. word.now) c))) (sym is) written
+    Writes a b (complaint_of_code (Some word.now)) → Writes a b (complaint_of_code (option_map (λ word. word.now) code))
+told_unknown a b code word is written = subst (λ c. Writes a b (complaint_of_code (option_map (λ word. word.now) c))) (sym is) written
 
 -- What the texts from one on say of a code is what that one says, if it is about the code, or what those behind it do.
 module _ {X : Type 0} (code : List ℕ) (f : X → List ℕ) (xs : List X) (i : ℕ) (d : X) (word : List ℕ) (same : word ≡ code)

@@ -1,6 +1,6 @@
 -- What the command `explain` writes.
 use Rattle.std.specs.Prelude.{◌≡◌, ℕ, List, [], ◌∷◌, ◌++◌, decimal, filter, map, codes, Bool, true, false, not, ◌||◌}
-use Rattle.std.specs.Prelude.{◌==◌, Option, Some, None, if◌then◌else◌}
+use Rattle.std.specs.Prelude.{◌==◌, Option, Some, None, option_map, if◌then◌else◌}
 use Rattle.std.specs.List.{before_first, after_first, concat, list_any}
 use Rattle.std.specs.Str.{bytes_eq, str_eq_ignore_ascii_case}
 use Rattle.verdict.specs.declared.reason.Reason.{Reason}
@@ -11,6 +11,7 @@ use Rattle.notes.specs.declared.note.Note.{Note}
 use Rattle.notes.specs.Note.{note_name, note_number}
 use Rattle.requests.specs.declared.status.Status.{Status}
 use Rattle.requests.specs.declared.status.Status.TheVariants.{Help, Usage, Stopped}
+use Rattle.meanings.specs.AskedCode.{code_meant}
 
 -- an explanation begins with its number, a space, its name and the end of the line
 abbrev pub number_of : List ℕ → List ℕ
@@ -47,11 +48,15 @@ abbrev pub end_of_explain : Bool → Bool → Status
 end_of_explain unknown failed = if unknown then Usage else (if failed then Stopped Write else Help)
 
 -- what it tells on standard error of a code that is unknown
-abbrev pub complaint : Option (List ℕ) → List ℕ
-complaint None = []
-complaint (Some code) =
+abbrev pub complaint_of_code : Option (List ℕ) → List ℕ
+complaint_of_code None = []
+complaint_of_code (Some code) =
     codes "error: no fault, finding, note or command has the number or the name '" ++ code
     ++ codes "'; 'pclcheck explain' writes all, 'pclcheck explain commands' lists the commands\n"
+
+-- of a word it names the code that is meant
+abbrev pub complaint : Option (List ℕ) → List ℕ
+complaint word = complaint_of_code (option_map code_meant word)
 
 -- ---- of what they tell
 

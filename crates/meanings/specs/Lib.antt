@@ -1,2 +1,3 @@
+pub mod AskedCode
 pub mod CommandsTold
 pub mod Explanations

@@ -1,13 +1,14 @@
 //! The program's command `explain`.
-ghost use Rattle.std.specs.Prelude.{◌≡◌, ◌==◌, ◌<◌, decimal, map, option_map, is_err, IfErr};
-ghost use Rattle.std.specs.Prelude.{IsFalse, IsTrue};
-ghost use Rattle.std.specs.List.{before_first, after_first, list_any};
+ghost use Rattle.std.specs.Prelude.{◌≡◌, decimal, map, option_map, is_err, IfErr, IsFalse, IsTrue};
+ghost use Rattle.std.specs.List.{list_any};
 ghost use Rattle.streams.specs.Writing.{Writes};
 ghost use Rattle.command_names.specs.CommandNames.{table, texts_in};
-ghost use Rattle.meanings.specs.CommandsTold.{is_unheard, told};
-ghost use Rattle.meanings.specs.Explanations.{complaint, end_of_explain, explained_by, explanation};
-ghost use Rattle.meanings.specs.Explanations.{is_about, is_asked, is_unknown};
+ghost use Rattle.meanings.specs.CommandsTold.{is_code_unheard, is_unheard, told, told_of_code};
+ghost use Rattle.meanings.specs.Explanations.{complaint, complaint_of_code, end_of_explain};
+ghost use Rattle.meanings.specs.Explanations.{explained_by, explanation, is_about, is_asked};
+ghost use Rattle.meanings.specs.Explanations.{is_unknown};
 
+use crate::asked_code::{code_of_word, cut};
 use crate::commands_told::{asks_of_commands, tell_commands};
 use crate::explanations::EXPLANATIONS;
 use command_names::{CHAPTERS, Chapter};
@@ -17,8 +18,8 @@ use streams::{Error, Outlet, write_text};
 
 /// The command `explain`: on standard output what the faults, findings and notes mean that have
 /// this number or name, or what all mean; or what is known of the commands of printers that have
-/// this key, spelling or name, or a list of them. A code that none has is a usage error, of which
-/// standard error tells.
+/// this key, spelling or name, or a list of them. The code may stand as people copy it, from a line
+/// or from a job. One that none has is a usage error, of which standard error tells.
 pub fn explain<O: Outlet, E: Outlet>(code: Option<&str>, stdout: &mut O, stderr: &mut E) -> Status
     requires stdout { IsFalse (O.state stdout.old).failed }
     requires stderr { IsFalse (E.state stderr.old).failed }
@@ -39,7 +40,7 @@ pub fn explain<O: Outlet, E: Outlet>(code: Option<&str>, stdout: &mut O, stderr:
     ensures quiet { IsFalse (is_unheard (map (λ text. text.now) EXPLANATIONS) table
         (option_map (λ word. word.now) code.entry)) → stderr.new ≡ stderr.old }
 {
-    explain_of(&EXPLANATIONS, &CHAPTERS, code, stdout, stderr)
+    explain_of(&EXPLANATIONS, &CHAPTERS, code_of_word(code), stdout, stderr)
 }
 
 /// Writes what is known of a code out of these texts, where the commands of these chapters have
@@ -53,22 +54,22 @@ fn explain_of<O: Outlet, E: Outlet>(
 ) -> Status
     requires stdout { IsFalse (O.state stdout.old).failed }
     requires stderr { IsFalse (E.state stderr.old).failed }
-    ensures text { IsFalse (is_unheard (map (λ text. text.now) texts.now)
+    ensures text { IsFalse (is_code_unheard (map (λ text. text.now) texts.now)
         (texts_in chapters.now) (option_map (λ word. word.now) code.entry)) →
         Writes (O.state stdout.old) (O.state stdout.new)
-        (told (map (λ text. text.now) texts.now) (texts_in chapters.now)
+        (told_of_code (map (λ text. text.now) texts.now) (texts_in chapters.now)
         (option_map (λ word. word.now) code.entry)) }
-    ensures untouched { IsTrue (is_unheard (map (λ text. text.now) texts.now)
+    ensures untouched { IsTrue (is_code_unheard (map (λ text. text.now) texts.now)
         (texts_in chapters.now) (option_map (λ word. word.now) code.entry)) →
         stdout.new ≡ stdout.old }
-    ensures status { result ≡ end_of_explain (is_unheard (map (λ text. text.now) texts.now)
+    ensures status { result ≡ end_of_explain (is_code_unheard (map (λ text. text.now) texts.now)
         (texts_in chapters.now) (option_map (λ word. word.now) code.entry))
         (O.state stdout.new).failed }
-    ensures complaint { IsTrue (is_unheard (map (λ text. text.now) texts.now)
+    ensures complaint { IsTrue (is_code_unheard (map (λ text. text.now) texts.now)
         (texts_in chapters.now) (option_map (λ word. word.now) code.entry)) →
         Writes (E.state stderr.old) (E.state stderr.new)
-        (complaint (option_map (λ word. word.now) code.entry)) }
-    ensures quiet { IsFalse (is_unheard (map (λ text. text.now) texts.now)
+        (complaint_of_code (option_map (λ word. word.now) code.entry)) }
+    ensures quiet { IsFalse (is_code_unheard (map (λ text. text.now) texts.now)
         (texts_in chapters.now) (option_map (λ word. word.now) code.entry)) →
         stderr.new ≡ stderr.old }
 {
@@ -100,7 +101,7 @@ fn explain_from<O: Outlet, E: Outlet>(
     ensures complaint { IsTrue (is_unknown (map (λ text. text.now) explanations.now)
         (option_map (λ word. word.now) code.entry)) →
         Writes (E.state stderr.old) (E.state stderr.new)
-        (complaint (option_map (λ word. word.now) code.entry)) }
+        (complaint_of_code (option_map (λ word. word.now) code.entry)) }
     ensures quiet { IsFalse (is_unknown (map (λ text. text.now) explanations.now)
         (option_map (λ word. word.now) code.entry)) → stderr.new ≡ stderr.old }
 {
@@ -178,21 +179,12 @@ fn is_about(code: &str, text: &str) -> bool
     number == code || name.eq_ignore_ascii_case(code)
 }
 
-/// What stands before the first such character, and behind it; where there is none, all and
-/// nothing.
-fn cut(text: &str, character: char) -> (&str, &str)
-    requires { character < 128 }
-    ensures before { result.0.now ≡ before_first (λ byte. byte == character) text.now }
-    ensures after { result.1.now ≡ after_first (λ byte. byte == character) text.now }
-{
-    text.split_once(character).unwrap_or((text, ""))
-}
-
 /// Tells that no explanation is about a code.
 fn refuse<E: Outlet>(code: &str, stderr: &mut E) -> Status
     requires { IsFalse (E.state stderr.old).failed }
     ensures status { result ≡ Status.Usage }
-    ensures line { Writes (E.state stderr.old) (E.state stderr.new) (complaint (Some code.now)) }
+    ensures line { Writes (E.state stderr.old) (E.state stderr.new)
+        (complaint_of_code (Some code.now)) }
 {
     let pieces: [&[u8]; 3] = [
         b"error: no fault, finding, note or command has the number or the name '",

@@ -1,7 +1,7 @@
 -- Moves and rectangles go as the table has them, by what is looked up of the page.
 use Rattle.std.proofs.Common.{◌≡◌, ℕ, ℤ, pos, ◌+◌, ◌*◌, Bool, true, false, not, ◌&&◌, cond, Option, Some, None, List, [], ◌∷◌, length}
 use Rattle.std.proofs.Common.{unwrap_or, refl, sym, ap, subst, ◌∙◌, arith}
-use Rattle.std.specs.Prelude.{◌+ℤ◌, ◌≤ℤ◌, ◌==◌, ◌%◌, ◌/◌, int_lt, is_none, nat_lt}
+use Rattle.std.specs.Prelude.{◌+ℤ◌, ◌-ℤ◌, ◌≤ℤ◌, ◌==◌, ◌%◌, ◌/◌, int_lt, is_none, nat_lt}
 use Rattle.std.proofs.Math.Nat.{mul_assoc}
 use Rattle.std.proofs.lemmas.Bool.{and_from, eqb-true, ne_eqb}
 use Rattle.std.proofs.lemmas.Nat.{div-add-mod', div-mul-add, mod-mul-add}
@@ -30,18 +30,20 @@ use Rattle.page_env.specs.declared.places.Origin.{Origin}
 use Rattle.page_env.specs.CursorPositioning.{move_across, move_from_top, pop_cursor, popped, push_cursor, stack_room}
 use Rattle.page_env.specs.Effect.{Effect, Goes, Step, TableLine, check, effect_of, fails_or, first_unset, is_unset, unset_or}
 use Rattle.page_env.specs.FontInForce.{face_of, font_reads}
-use Rattle.page_env.specs.Forms.{Across, AcrossDecipoints, Bound, Columns, Down, DownDecipoints, Filled, FormGoes, HasBounds}
+use Rattle.page_env.specs.Forms.{Across, AcrossDecipoints, Bound, Columns, Down, DownDecipoints, FeedGoes, Filled, FormGoes, HasBounds}
 use Rattle.page_env.specs.Forms.{Height, KnowsPage, LeavesRest, Rows, Stacked, Width}
 use Rattle.page_env.specs.Mark.{Rectangle, Shape, is_inside}
+use Rattle.page_env.specs.declared.motion.Feed.TheVariants.{HalfLine}
 use Rattle.page_env.specs.Motion.{line_termination_reads}
 use Rattle.page_env.specs.Numbers.{is_absent, is_negative, is_whole_between, whole_of}
 use Rattle.page_env.specs.Places.{column_from, decipoint_ticks, first_line, geometry_of, home_of, is_between, origin_on}
 use Rattle.page_env.specs.Places.{page_and_line_reads, page_reads, place_between, target_of, ticks_in, times, unit_ticks}
 use Rattle.page_env.specs.Places.{vertical_reads}
 use Rattle.page_env.specs.Rectangles.{fill_of, rectangle_at}
-use Rattle.page_env.specs.Settings.{Settings, State, is_from_panel, settings_at, state_at, value_at, with_job}
+use Rattle.page_env.specs.Settings.{Settings, State, half_inch, is_from_panel, settings_at, state_at, value_at, with_job}
 use Rattle.page_env.specs.Text.{text_reads}
 use Rattle.page_env.specs.TextMeasure.{HasMeasure, TextMeasure, area_of, lies_in}
+use Rattle.page_env.proofs.Feeds.{feed-steps}
 use Rattle.page_env.proofs.TextRuns.{is_between-of}
 
 -- ---- places
@@ -581,3 +583,35 @@ module _ (printer : Printer) (page : Page) (bounds : FormBounds) (has : HasBound
       (subst (λ (a : ℤ). lies_in bounds.area (box a y) ≡ true) at_x lies) in
       fill_by printer page g has.has n here fills some stands
       (inside_of g (box across down) (subst (λ (area : Bounds). lies_in area (box across down) ≡ true) has.bound.area boxed))
+
+-- ---- half a line
+
+-- it is fed where it leads no further down than a feed may
+pub half_line_goes : (printer : Printer) (page : Page) (bounds : FormBounds) → HasBounds printer page bounds →
+    (vmi : ℕ) (here y foot : ℤ) → page.env.fields.vmi ≡ Known vmi → page.cursor.y ≡ Some here →
+    y ≡ here +ℤ pos (ticks_in FortyEighthInch vmi / 2) →
+    foot ≡ cond page.env.job.skips_perforation (unwrap_or page.env.job.bottom_margin (bounds.height -ℤ half_inch)) bounds.height →
+    int_lt foot y ≡ false → FeedGoes printer page (record page { cursor = record page.cursor { y = Some y } })
+unfolding page_reads page_and_line_reads
+half_line_goes printer page bounds h vmi here y foot is stands y_is foot_is within = record {
+  goes = λ panel.
+      let s : State = state_at panel page in
+      let fed : Option ℤ → ℤ = λ o. unwrap_or o (first_line page.env.job.top_margin vmi) +ℤ pos (ticks_in FortyEighthInch vmi / 2) in
+      let limit : ℤ → ℤ =
+      λ height. cond page.env.job.skips_perforation (unwrap_or page.env.job.bottom_margin (height -ℤ half_inch)) height in
+      let leads : fed page.cursor.y ≡ y = ap fed stands ∙ sym y_is in
+      let short : int_lt (limit h.geometry.logical_height) (fed page.cursor.y) ≡ false =
+      ap (λ height. int_lt (limit height) (fed page.cursor.y)) (sym h.bound.height)
+      ∙ ap (λ z. int_lt z (fed page.cursor.y)) (sym foot_is)
+      ∙ ap (int_lt foot) leads
+      ∙ within in
+      let read : first_unset s.settings page_and_line_reads ≡ None =
+      ap
+      (λ (cell : Cell). cond s.settings.unset.size (Some Size)
+      (cond s.settings.unset.orientation (Some Orientation) (cond (is_from_panel cell) (Some Vmi) None)))
+      is
+      ∙ h.has.read panel in
+      feed-steps printer panel page HalfLine h.geometry vmi (h.has.geometry panel) (ap (value_at panel.vmi) is) read short
+      ∙ ap (λ z. Goes (record s { cursor = record s.cursor { y = Some z } }) []) leads;
+  rest = refl;
+}

@@ -1,5 +1,5 @@
 -- Moves of the cursor, its stack, and rectangles, one behind another, by what is looked up once of the page.
-use Rattle.std.specs.Prelude.{◌≡◌, ℕ, ◌/◌, Option, None, IfSome, List, length}
+use Rattle.std.specs.Prelude.{◌≡◌, ℕ, ◌/◌, Option, None, IfSome, List, [], length}
 use Rattle.tick_length.specs.declared.unit.Unit.TheVariants.{PclUnit}
 use Rattle.tick_length.specs.Unit.{ticks_of}
 use Rattle.pcl_items.specs.Escapes.Value.{Amount}
@@ -13,6 +13,7 @@ use Rattle.page_env.specs.declared.page.JobSettings.{JobSettings}
 use Rattle.page_env.specs.declared.page.Page.{Page}
 use Rattle.page_env.specs.Effect.{Goes, effect_of, first_unset}
 use Rattle.page_env.specs.Mark.{Shape}
+use Rattle.page_env.specs.Motion.{half_line_feed}
 use Rattle.page_env.specs.Places.{geometry_of, origin_on, page_reads}
 use Rattle.page_env.specs.Settings.{Settings, settings_at, state_at}
 use Rattle.page_env.specs.Table.{command_transition}
@@ -98,3 +99,13 @@ abbrev pub FormsBy : FormBounds → Command → Amount → Page → Page → Opt
 FormsBy bounds command n old new answer =
     IfSome answer
     (λ marks. (printer : Printer) → HasBounds printer old bounds → FormGoes printer command n marks old new)
+
+-- half a line is fed, whatever the panel
+pub record FeedGoes (printer : Printer) (old new : Page) : Type 0 where
+  pub goes : (panel : Panel) →
+      effect_of (settings_at panel old.env) (half_line_feed printer (state_at panel old)) ≡ Goes (state_at panel new) []
+  pub rest : LeavesRest old new
+
+-- so it is where this is what moves take
+abbrev pub FeedsBy : FormBounds → Page → Page → Type 0
+FeedsBy bounds old new = (printer : Printer) → HasBounds printer old bounds → FeedGoes printer old new

@@ -3,7 +3,8 @@
 #![tactic(auto)]
 
 ghost use Rattle.std.specs.Prelude.{◌≡◌, ◌≤◌, ◌^◌, ◌+◌, ◌*◌, ◌/◌, ◌+ℤ◌, ◌≤ℤ◌, pos};
-ghost use Rattle.std.specs.Prelude.{IfNone, IfSome, IsTrue, Some, ◌==◌, false, true};
+ghost use Rattle.std.specs.Prelude.{◌-ℤ◌, cond, unwrap_or};
+ghost use Rattle.std.specs.Prelude.{IfNone, IfSome, IsFalse, IsTrue, Some, ◌==◌, false, true};
 ghost use Rattle.tick_length.specs.declared.unit.Unit.TheVariants.{PclUnit};
 ghost use Rattle.tick_length.specs.Unit.{ticks_of};
 ghost use Rattle.pcl_items.specs.declared.pcl.command.Command.TheVariants.{
@@ -20,9 +21,10 @@ ghost use Rattle.pcl_items.specs.declared.pcl.command.Command.TheVariants.{
 };
 ghost use Rattle.pcl_items.specs.Escapes.Value.{is_whole};
 ghost use Rattle.pcl_items.specs.Items.{amount};
-ghost use Rattle.page_env.specs.Forms.{FormsBy, HasBounds};
+ghost use Rattle.page_env.specs.Forms.{FeedsBy, FormsBy, HasBounds};
 ghost use Rattle.page_env.specs.Numbers.{IsWithin, is_whole_between, whole_of};
 ghost use Rattle.page_env.specs.Places.{place_between, target_of, times};
+ghost use Rattle.page_env.specs.Settings.{half_inch};
 
 use crate::cell::Cell;
 use crate::cursor::{Coordinate, Cursor};
@@ -31,7 +33,8 @@ use crate::mark::Bounds;
 use crate::number::{is_negative, is_whole_between, whole_of};
 use crate::page::Page;
 use crate::places::{
-    SheetPlace, first_line, known_geometry, length_between, on_sheet, origin_on, ticks_in,
+    SheetPlace, first_line, half_inch, known_geometry, length_between, on_sheet, origin_on,
+    ticks_in,
 };
 use crate::rectangles::{fill_of, is_empty};
 use crate::text_lines::area_of;
@@ -324,6 +327,46 @@ fn use_stack_on(bounds: &FormBounds, page: &mut Page, n: Number) -> Option<u64>
     } else {
         pop_on(bounds, page, n)
     }
+}
+
+/// How far down a feed may lead, in ticks.
+// As `feed_limit` finds it.
+#[inline(always)]
+fn foot_on(bounds: &FormBounds, page: &Page) -> i64
+    ensures high { result ≤ℤ pos (2 ^ 60) }
+    ensures value { result ≡ cond page.now.env.job.skips_perforation
+        (unwrap_or page.now.env.job.bottom_margin (bounds.now.height -ℤ half_inch))
+        bounds.now.height }
+{
+    if !page.env.job.skips_perforation {
+        return bounds.height.ticks();
+    }
+    match page.env.job.bottom_margin {
+        Some(bottom) => bottom.ticks(),
+        None => bounds.height.ticks() - half_inch().ticks(),
+    }
+}
+
+/// Feeds half a line (`ESC =`), where it is known that this goes and the cursor is not at home, and
+/// tells whether it did.
+#[inline(always)]
+pub fn feed_half_line_on(bounds: &FormBounds, page: &mut Page) -> bool
+    ensures goes { IsTrue result → FeedsBy bounds.now page.old page.new }
+    ensures same { IsFalse result → page.new ≡ page.old }
+{
+    let Cell::Known(vmi) = page.env.fields.vmi else {
+        return false;
+    };
+    let Some(here) = page.cursor.y else {
+        return false;
+    };
+    let by = ticks_in(Unit::FortyEighthInch, vmi) / 2;
+    let y = here.ticks() + by as i64;
+    if foot_on(bounds, page) < y {
+        return false;
+    }
+    page.cursor.y = Some(Coordinate::from_ticks(y));
+    true
 }
 
 /// `*c#A`, where it goes.

@@ -8,18 +8,20 @@ use Rattle.pcl_items.specs.declared.item.Mode.{Mode}
 use Rattle.pcl_items.specs.declared.item.Mode.TheVariants.{Pcl}
 use Rattle.pcl_items.specs.declared.pcl.command.Command.{Command}
 use Rattle.pcl_items.specs.declared.pcl.command.Command.TheVariants as commands
-use Rattle.pcl_items.specs.Items.{Entry, Parameterized}
+use Rattle.pcl_items.specs.Items.{Entry, HalfLineFeed, Parameterized}
 use Rattle.pcl_items.specs.Modes.{follows}
 use Rattle.page_env.specs.declared.page.Page.{Page}
 use Rattle.page_env.specs.Effect.{Goes, effect_of}
 use Rattle.page_env.specs.declared.lookup.FormBounds.{FormBounds}
-use Rattle.page_env.specs.Forms.{Across, AcrossDecipoints, Columns, Down, DownDecipoints, Filled, Form, FormGoes, FormsBy, Height}
+use Rattle.page_env.specs.Forms.{Across, AcrossDecipoints, Columns, Down, DownDecipoints, FeedGoes, FeedsBy, Filled, Form, FormGoes}
+use Rattle.page_env.specs.Forms.{FormsBy, Height}
 use Rattle.page_env.specs.Forms.{Rows, Stacked, Width, command_of}
 use Rattle.page_env.specs.Mark.{Shape}
+use Rattle.page_env.specs.Motion.{half_line_feed}
 use Rattle.page_env.specs.Settings.{Settings, State, state_at}
 use Rattle.page_env.specs.Table.{command_transition}
 use Rattle.page_machine.specs.Event.{Marked}
-use Rattle.page_machine.specs.Forms.{FormsOn, RunsForm}
+use Rattle.page_machine.specs.Forms.{FormsOn, RunsFeed, RunsForm}
 use Rattle.page_machine.specs.Run.{Conditions, Done, after, effect_run, item_run, just, peaks_of}
 use Rattle.page_machine.specs.Macros.{in_job}
 use Rattle.page_machine.specs.Defining.{defined_after, defining_of, defining_run}
@@ -143,3 +145,38 @@ pub forms_run : (bounds : FormBounds) (machine : MachineState) (command : Comman
 forms_run bounds machine command n page None goes = tt
 forms_run bounds machine command n page (Some marks) goes = λ on.
     form_runs machine n on.no_definition command marks page on.page.has.no_raster on.mode (goes machine.printer on.page)
+
+-- ---- half a line
+
+-- its feed is its own step, where no raster is started
+feed_step : (printer : Printer) (conditions : Conditions) (s : State) →
+    item_run printer conditions HalfLineFeed (record s { raster = None })
+    ≡ effect_run conditions (effect_of s.settings (half_line_feed printer (record s { raster = None })))
+feed_step printer conditions s = refl
+
+pub feed_runs : (bounds : FormBounds) (machine : MachineState) (page : Page) → FeedsBy bounds machine.page page →
+    FormsOn bounds machine → RunsFeed machine (record machine { page = page })
+feed_runs bounds machine page feeds on = record {
+  is = refl;
+  macros =
+      ap (λ d. cond (is_some d) (defined_after HalfLineFeed (defining_of HalfLineFeed) machine.macros) machine.macros)
+      on.no_definition;
+  mode = subst (λ m. unwrap_or (follows m HalfLineFeed) m ≡ m) (sym on.mode) refl;
+  run = λ panel.
+      let goes : FeedGoes machine.printer machine.page page = feeds machine.printer on.page in
+      let conditions : Conditions = in_job (context_of machine panel) in
+      let s : State = state_at panel machine.page in
+      let raster_none = on.page.has.no_raster in
+      ap
+      (λ d. cond (is_some d) (defining_run machine.macros HalfLineFeed (defining_of HalfLineFeed) s)
+      (item_run machine.printer conditions HalfLineFeed s))
+      on.no_definition
+      ∙ ap (λ raster. item_run machine.printer conditions HalfLineFeed (record s { raster = raster })) raster_none
+      ∙ feed_step machine.printer conditions s
+      ∙ ap
+      (λ raster. effect_run conditions (effect_of s.settings (half_line_feed machine.printer (record s { raster = raster }))))
+      (sym raster_none)
+      ∙ ap (effect_run conditions) (goes.goes panel)
+      ∙ step_ends [] (state_at panel page);
+  rest = (feeds machine.printer on.page).rest;
+}

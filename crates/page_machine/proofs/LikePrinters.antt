@@ -2,10 +2,10 @@
 use Rattle.std.proofs.Common.{◌≡◌, ℕ, ℤ, Bool, true, false, ◌&&◌, ◌==◌, cond, is_some, List, [], ◌∷◌, Option, Some, None, refl, ap, sym}
 use Rattle.std.proofs.Common.{◌∙◌}
 use Rattle.std.proofs.lemmas.Bool.{false≢true}
-use Rattle.macro_store.specs.Store.{no_macros}
+use Rattle.macro_store.specs.Store.{Store, cleared}
 use Rattle.pcl_items.specs.declared.pcl.command.Command.{Command}
 use Rattle.pcl_items.specs.declared.pcl.command.Command.TheVariants.{MacroControl}
-use Rattle.pcl_items.specs.Items.{Entry, Parameterized}
+use Rattle.pcl_items.specs.Items.{Entry, ExitLanguage, Parameterized, Reset}
 use Rattle.pcl_items.specs.Escapes.Value.{Amount}
 use Rattle.device_profile.specs.declared.field.Field.{Field}
 use Rattle.device_profile.specs.Likeness.{IsLike}
@@ -23,10 +23,11 @@ use Rattle.page_env.specs.Settings.{Settings, State}
 use Rattle.page_env.specs.Table.{coordinates_of, printed_bytes, transition_of}
 use Rattle.page_env.specs.Text.{print_transparent}
 use Rattle.page_machine.specs.Run.{Run, just, after, Done, Halts, peaks_of, onward, followed_by, finding_or, unset_or, Conditions}
-use Rattle.page_machine.specs.Run.{effect_run, transition_run, byte_run, printing, move_run, drawing, own_run}
+use Rattle.page_machine.specs.Run.{effect_run, item_run, transition_run, byte_run, printing, move_run, drawing, own_run}
 use Rattle.page_machine.specs.Macros.{MacroContext, closing_reads, ended, in_job, overlay_run, page_close}
-use Rattle.page_machine.specs.Defining.{macros_after}
-use Rattle.page_machine.specs.Likeness.{without_macros, RunsOnLike}
+use Rattle.page_machine.specs.Defining.{carried_after, defined_after, defining_of, defining_run, job_item_run, macros_after}
+use Rattle.page_machine.specs.Likeness.{LeavesStore, RunsOnLike}
+use Rattle.page_machine.specs.PlainMacros.{context_for}
 
 -- ---- effects
 
@@ -59,7 +60,7 @@ effect_without settings (Behind reads t) h = unset_without (first_unset settings
 effect_without settings (Controls s n) h = absurd h
 
 -- a run, and behind it runs that are the same from each state
-followed_same : (r : Run) (f g : State → Run) → ((s : State) → f s ≡ g s) → followed_by r f ≡ followed_by r g
+pub followed_same : (r : Run) (f g : State → Run) → ((s : State) → f s ≡ g s) → followed_by r f ≡ followed_by r g
 followed_same r f g h = by r.ending
   where
     by : (ending : _) → onward r.events r.peaks ending f ≡ onward r.events r.peaks ending g
@@ -76,15 +77,15 @@ begun_without item s h = by (is_of_raster item)
 
 -- ---- on both
 
-module _ (p q : Printer) (defaults : Settings) where
+module _ (p q : Printer) (defaults : Settings) (own other : Store) where
   abbrev there : Conditions
-  there = in_job (without_macros q defaults)
+  there = in_job (context_for q defaults other)
 
   abbrev here : Conditions
-  here = in_job (without_macros p defaults)
+  here = in_job (context_for p defaults own)
 
-  close_same : (s : State) → HasNoOverlay s → page_close (without_macros q defaults) s ≡ page_close (without_macros p defaults) s
-  close_same s e = ap (closes (without_macros q defaults)) e ∙ sym (ap (closes (without_macros p defaults)) e)
+  close_same : (s : State) → HasNoOverlay s → page_close (context_for q defaults other) s ≡ page_close (context_for p defaults own) s
+  close_same s e = ap (closes (context_for q defaults other)) e ∙ sym (ap (closes (context_for p defaults own)) e)
     where
       closes : MacroContext → Option ℕ → Run
       closes context overlay =
@@ -135,21 +136,45 @@ module _ (p q : Printer) (defaults : Settings) where
 
 -- ---- the macros
 
-command_leaves : (p q : Printer) (command : Command) (n : Amount) → command_asks_alike p q command n ≡ true → (id limit : ℕ) →
-    macros_after id (Parameterized command n) (no_macros limit) ≡ no_macros limit
-command_leaves p q MacroControl n e id limit = absurd (false≢true e)
-command_leaves p q _ n e id limit = refl
+command_leaves : (p q : Printer) (command : Command) (n : Amount) → command_asks_alike p q command n ≡ true → (id : ℕ) (store : Store) →
+    carried_after id (Parameterized command n) store ≡ store
+command_leaves p q MacroControl n e id store = absurd (false≢true e)
+command_leaves p q _ n e id store = refl
 
-leaves_none : (p q : Printer) (item : Entry) → asks_alike p q item ≡ true → (id limit : ℕ) →
-    macros_after id item (no_macros limit) ≡ no_macros limit
-leaves_none p q (Parameterized command n) e id limit = command_leaves p q command n e id limit
-leaves_none p q _ e id limit = refl
+-- a reset where no macro is known
+cleared_is : (store : Store) → store.bodies ≡ [] → cleared store ≡ store
+cleared_is store none = λ i. record store { bodies = sym none i }
+
+item_leaves : (p q : Printer) (item : Entry) → asks_alike p q item ≡ true → (id : ℕ) (store : Store) → LeavesStore item store →
+    carried_after id item store ≡ store
+item_leaves p q (Parameterized command n) e id store leaves = command_leaves p q command n e id store
+item_leaves p q Reset e id store leaves = cleared_is store (leaves refl)
+item_leaves p q ExitLanguage e id store leaves = cleared_is store (leaves refl)
+item_leaves p q _ e id store leaves = refl
+
+leaves_macros : (p q : Printer) (item : Entry) → asks_alike p q item ≡ true → (id : ℕ) (store : Store) → store.definition ≡ None →
+    LeavesStore item store → macros_after id item store ≡ store
+leaves_macros p q item e id store none leaves =
+    ap (λ d. cond (is_some d) (defined_after item (defining_of item) store) (carried_after id item store)) none
+    ∙ item_leaves p q item e id store leaves
+
+-- where no definition is open an item is carried out
+pub carried_out : (context : MacroContext) (item : Entry) (s : State) → context.macros.definition ≡ None →
+    job_item_run context item s ≡ item_run context.printer (in_job context) item s
+carried_out context item s none =
+    ap
+    (λ d. cond (is_some d) (defining_run context.macros item (defining_of item) s)
+    (item_run context.printer (in_job context) item s))
+    none
 
 pub runs_on_both : ((item : Entry) → GoesOnLike item) → ((code : ℕ) → ByteGoesOnLike code) → ((to : ℤ × ℤ) → MoveGoesOnLike to) →
     (item : Entry) → RunsOnLike item
 runs_on_both items bytes moves item p q like asks = record {
   same =
-      λ defaults s h.
-      begun_same p q defaults like bytes moves item (items item p q defaults like asks) (begun_by item s) (begun_without item s h);
-  macros = leaves_none p q item asks;
+      λ defaults own other s none none' h.
+      carried_out (context_for q defaults other) item s none'
+      ∙ begun_same p q defaults own other like bytes moves item (items item p q defaults like asks) (begun_by item s)
+      (begun_without item s h)
+      ∙ sym (carried_out (context_for p defaults own) item s none);
+  macros = leaves_macros p q item asks;
 }

@@ -4,7 +4,7 @@ use Rattle.device_profile.specs.declared.panel.Panel.{Panel}
 use Rattle.pcl_items.specs.Escapes.Value.{Amount}
 use Rattle.pcl_items.specs.declared.item.Mode.TheVariants.{Pcl}
 use Rattle.pcl_items.specs.declared.pcl.command.Command.{Command}
-use Rattle.pcl_items.specs.Items.{Parameterized}
+use Rattle.pcl_items.specs.Items.{HalfLineFeed, Parameterized}
 use Rattle.page_env.specs.declared.lookup.FormBounds.{FormBounds}
 use Rattle.page_env.specs.Forms.{Form, HasBounds, LeavesRest, command_of}
 use Rattle.page_env.specs.Mark.{Shape}
@@ -33,4 +33,15 @@ pub record RunsForm (command : Command) (n : Amount) (marks : ℕ) (old new : Ma
   pub run : (panel : Panel) →
       (item_of old (Parameterized command n)).run panel
       ≡ after (map Marked shapes) (peaks_of (state_at panel new.page)) (just [] (Done (state_at panel new.page)))
+  pub rest : LeavesRest old.page new.page
+
+-- A half line feed is an item that the machine carries out to its end, whatever the panel, without a mark, and that
+-- leaves the macros, the mode, and all of the page but the cursor.
+pub record RunsFeed (old new : MachineState) : Type 0 where
+  pub is : new ≡ record old { page = new.page }
+  pub macros : (item_of old HalfLineFeed).macros ≡ old.macros
+  pub mode : (item_of old HalfLineFeed).mode ≡ old.mode
+  pub run : (panel : Panel) →
+      (item_of old HalfLineFeed).run panel
+      ≡ after [] (peaks_of (state_at panel new.page)) (just [] (Done (state_at panel new.page)))
   pub rest : LeavesRest old.page new.page

@@ -30,7 +30,7 @@ pub enum Defining {
 
 /// The control that an item is.
 #[inline(always)]
-fn control_in(item: &Item<'_>) -> Option<Control>
+pub(crate) fn control_in(item: &Item<'_>) -> Option<Control>
     ensures { result ≡ control_in (view item.now) }
 {
     match item {

@@ -1,9 +1,10 @@
 //! The lexer.
 
-ghost use Rattle.std.specs.Prelude.{◌≡◌, ◌≤◌, ◌-◌, ◌+◌, ◌^◌, ◌++◌, ℕ, List, [], length};
+ghost use Rattle.std.specs.Prelude.{◌≡◌, ◌⊎◌, ◌≤◌, ◌-◌, ◌+◌, ◌^◌, ◌++◌, ℕ, List, [], length};
 ghost use Rattle.std.specs.Prelude.{take, drop, false, true, vec_len, vec_capacity, IfNone};
 ghost use Rattle.std.specs.Prelude.{IfOk, IfSome, IsTrue, OnOk, OnErr};
 ghost use Rattle.std.specs.Borrow.{sem};
+ghost use Rattle.pcl_lexer.specs.declared.lexer.first.Context.TheVariants.{Pcl, Sequence};
 
 pub(crate) mod ahead;
 pub(crate) mod first;
@@ -18,7 +19,7 @@ use crate::lexer::ahead::{
 use crate::lexer::first::{Context, First, Numbers};
 use crate::lexer::lexed::Lexed;
 use crate::pcl::command_with_data::row_in;
-use crate::pcl::parameterized::{parameterized_in, short_in};
+use crate::pcl::parameterized::{any_in, further_in, parameterized_in, short_in};
 use pcl_items::{Data, Group, Item, LexFault, LineEnd, Motion, Place, SimpleItem};
 use std::alloc::{AllocError, Allocator, Global};
 use std::marker::Model;
@@ -186,35 +187,83 @@ impl<A: Allocator> Lexer<A> {
         })
     }
 
-    /// The command of rectangles (`*c`) that stands next with a short number, as most have, where
-    /// it is known that one does: the item that `next` would give.
+    /// The parameterized command of this group that stands next with a short number, as most have,
+    /// where it is known that one does: the item that `next` would give.
     ///
-    /// It tells nothing of what else may stand next. What executes it needs no table, since there
-    /// are few of the group.
+    /// It tells nothing of what else may stand next. Where the group is written in the call, what
+    /// executes the command needs no table, since a group has few.
     #[inline(always)]
-    pub fn next_rectangle(&mut self) -> Option<PlacedItem>
+    pub fn next_short(&mut self, group: Group) -> Option<PlacedItem>
         ensures command { IfSome result (λ read. IsNext self.old (answer_of read) self.new) }
         ensures none { IfNone result (self.new ≡ self.old) }
     {
-        self.next_short(Group::Rectangle)
+        if let Context::Pcl = self.context {
+            self.begin(group)
+        } else {
+            self.go_on(group)
+        }
     }
 
-    /// So it is with a move in PCL units (`*p`).
+    /// The escape sequence that stands next, of two characters or a parameterized command, where it
+    /// is known that one does: the item that `next` would give.
+    ///
+    /// It is asked where `next_short` gave nothing. It tells nothing of what else may stand next.
     #[inline(always)]
-    pub fn next_move(&mut self) -> Option<PlacedItem>
+    pub fn next_escape(&mut self) -> Option<PlacedItem>
         ensures command { IfSome result (λ read. IsNext self.old (answer_of read) self.new) }
         ensures none { IfNone result (self.new ≡ self.old) }
     {
-        self.next_short(Group::UnitPosition)
+        if let Some(read) = self.next_in_group() {
+            return Some(read);
+        }
+        if let Some(read) = self.next_sequence() {
+            return Some(read);
+        }
+        self.next_command()
     }
 
-    /// So it is with a move by columns, rows or decipoints, or a margin (`&a`).
+    /// The command of one of these groups that stands next, where it is known that one does.
     #[inline(always)]
-    pub fn next_position(&mut self) -> Option<PlacedItem>
+    fn next_in_group(&mut self) -> Option<PlacedItem>
         ensures command { IfSome result (λ read. IsNext self.old (answer_of read) self.new) }
         ensures none { IfNone result (self.new ≡ self.old) }
     {
-        self.next_short(Group::Position)
+        match self.group_ahead()? {
+            Group::Macro => self.next_short(Group::Macro),
+            Group::Position => self.next_any(Group::Position),
+            Group::UnitPosition => self.next_any(Group::UnitPosition),
+            _ => None,
+        }
+    }
+
+    /// The group of the command that stands next, if one may.
+    #[inline(always)]
+    pub fn group_ahead(&self) -> Option<Group> {
+        match self.context {
+            Context::Sequence(group) => return Some(group),
+            Context::Pcl => {}
+            _ => return None,
+        }
+        let [b'\x1b', introducer, character, ..] = self.unread() else {
+            return None;
+        };
+        Group::of(*introducer, *character)
+    }
+
+    /// The escape sequence of two characters that stands next, where it is known that one does.
+    #[inline(always)]
+    #[tactic(auto, using(crate::proofs::Lexing::Steps::is_next))]
+    fn next_sequence(&mut self) -> Option<PlacedItem>
+        ensures sequence { IfSome result (λ read. IsNext self.old (answer_of read) self.new) }
+        ensures none { IfNone result (self.new ≡ self.old) }
+    {
+        let Context::Pcl = self.context else {
+            return None;
+        };
+        let item = sequence_in(self.unread())?;
+        let place = self.place();
+        self.at += 2;
+        Some(PlacedItem { place, item })
     }
 
     /// The carriage return or line feed that stands next, where it is known that one does: the item
@@ -432,15 +481,61 @@ impl<A: Allocator> Lexer<A> {
         self.at += count;
     }
 
-    /// The parameterized command of this group that stands next with a short number, where it is
-    /// known that one does.
+    /// The command of this group that stands next between units with a short number.
     #[inline(always)]
     #[tactic(auto, using(crate::proofs::Lexing::Steps::is_next))]
-    fn next_short(&mut self, group: Group) -> Option<PlacedItem>
+    fn begin(&mut self, group: Group) -> Option<PlacedItem>
         ensures command { IfSome result (λ read. IsNext self.old (answer_of read) self.new) }
         ensures none { IfNone result (self.new ≡ self.old) }
     {
-        let Some(read) = short_in(group, self.context, self.unread()) else {
+        let Context::Pcl = self.context else {
+            return None;
+        };
+        let Some(read) = short_in(group, self.unread()) else {
+            return None;
+        };
+        let place = self.place();
+        self.at += read.len;
+        begin_with(&mut self.context, read.next);
+        Some(PlacedItem {
+            place,
+            item: SimpleItem::Parameterized(read.command, read.number),
+        })
+    }
+
+    /// The one that stands next behind another of the group.
+    #[inline(always)]
+    #[tactic(auto, using(crate::proofs::Lexing::Steps::is_next))]
+    fn go_on(&mut self, group: Group) -> Option<PlacedItem>
+        ensures command { IfSome result (λ read. IsNext self.old (answer_of read) self.new) }
+        ensures none { IfNone result (self.new ≡ self.old) }
+    {
+        let Context::Sequence(begun) = self.context else {
+            return None;
+        };
+        if begun != group {
+            return None;
+        }
+        let Some(read) = further_in(begun, self.unread()) else {
+            return None;
+        };
+        let place = self.place();
+        self.at += read.len;
+        go_on_with(&mut self.context, begun, read.next);
+        Some(PlacedItem {
+            place,
+            item: SimpleItem::Parameterized(read.command, read.number),
+        })
+    }
+
+    /// The same with any number.
+    #[inline(always)]
+    #[tactic(auto, using(crate::proofs::Lexing::Steps::is_next))]
+    fn next_any(&mut self, group: Group) -> Option<PlacedItem>
+        ensures command { IfSome result (λ read. IsNext self.old (answer_of read) self.new) }
+        ensures none { IfNone result (self.new ≡ self.old) }
+    {
+        let Some(read) = any_in(group, self.context, self.unread()) else {
             return None;
         };
         let place = self.place();
@@ -504,6 +599,32 @@ impl<A: Allocator> Lexer<A> {
                 undecided(self.ended, context, place, start, &self.window)
             }
         }
+    }
+}
+
+// Of what stands before, these two write only what changes.
+
+/// Sets what stands before the bytes behind a command that stands between units.
+#[inline(always)]
+fn begin_with(context: &mut Context, next: Context)
+    requires { context.old ≡ Pcl }
+    ensures { context.new ≡ next }
+{
+    if let Context::Pcl = next {
+        return;
+    }
+    *context = next;
+}
+
+/// Sets what stands before the bytes behind a further command of a group.
+#[inline(always)]
+fn go_on_with(context: &mut Context, group: Group, next: Context)
+    requires begun { context.old ≡ Sequence group }
+    requires goes_on { (next ≡ Pcl) ⊎ (next ≡ Sequence group) }
+    ensures { context.new ≡ next }
+{
+    if let Context::Pcl = next {
+        *context = Context::Pcl;
     }
 }
 

@@ -8,8 +8,8 @@ use Rattle.page_machine.specs.Detached.{DetachedState, attached, detached}
 use Rattle.page_machine.specs.Likeness.{standing_as}
 use Rattle.page_machine.specs.MachineState.{MachineState}
 use Rattle.sinks.specs.declared.counts.Counts.{Counts}
-use Rattle.preflight.specs.declared.lockstep.FleetMode.{FleetMode}
-use Rattle.preflight.specs.declared.lockstep.FleetMode.TheVariants.{Alone, Together, Apart}
+use Rattle.preflight.specs.declared.fleet_mode.FleetMode.{FleetMode}
+use Rattle.preflight.specs.declared.fleet_mode.FleetMode.TheVariants.{Alone, Together, Defining, Apart}
 use Rattle.preflight.specs.Carriers.Checking.{printers_of}
 use Rattle.preflight.specs.Carriers.Detached.{AreFormed, AreLeftOf, DetachedFleet, IsLeftOf, IsUnderWay, attached_each}
 use Rattle.preflight.specs.Carriers.Detached.{attached_fleet, session_with}
@@ -67,6 +67,7 @@ printers_in : (fleet_mode : FleetMode) (first : MachineState) (others : List Mac
     printers_of (others_in fleet_mode first others) ≡ printers_of others
 printers_in Alone first others formed = ap printers_of (sym formed)
 printers_in Together first others formed = standing_printers first others
+printers_in Defining first others formed = refl
 printers_in Apart first others formed = refl
 
 module _ (fleet_mode : FleetMode) (first : MachineState) (others : List MachineState) (counts : Counts)

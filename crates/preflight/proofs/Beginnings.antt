@@ -2,7 +2,7 @@
 use Rattle.std.proofs.Common.{◌≡◌, List, [], ◌∷◌, map, refl, ap, sym, ◌∙◌, subst}
 use Rattle.std.specs.Prelude.{◌≢◌}
 use Rattle.std.specs.List.{AllByRecursion}
-use Rattle.macro_store.specs.Store.{no_macros}
+use Rattle.macro_store.specs.Store.{Store}
 use Rattle.device_profile.specs.declared.panel.Panel.{Panel}
 use Rattle.device_profile.specs.Likeness.{IsLike}
 use Rattle.device_profile.specs.Printer.{Printer}
@@ -11,14 +11,14 @@ use Rattle.page_machine.specs.declared.machine.Start.TheVariants.{Unknown}
 use Rattle.page_machine.specs.Likeness.{standing_as}
 use Rattle.page_machine.specs.Machine.{StartsFrom}
 use Rattle.page_machine.specs.MachineState.{MachineState}
-use Rattle.preflight.specs.declared.lockstep.FleetMode.{FleetMode}
-use Rattle.preflight.specs.declared.lockstep.FleetMode.TheVariants.{Alone, Together, Apart}
+use Rattle.preflight.specs.declared.fleet_mode.FleetMode.{FleetMode}
+use Rattle.preflight.specs.declared.fleet_mode.FleetMode.TheVariants.{Alone, Together, Defining, Apart}
 use Rattle.preflight.specs.Carriers.Each.{Each}
-use Rattle.preflight.specs.Carriers.FleetMode.{others_in, BeginsAs, Follows, IsFormed, KnowsNoMacro}
+use Rattle.preflight.specs.Carriers.FleetMode.{others_in, BeginsAs, DefinesNone, Follows, IsFormed}
 use Rattle.preflight.specs.Carriers.Lockstep.{IsFresh}
 
-knows_none : (printer : Printer) (m : MachineState) → IsFresh printer m → KnowsNoMacro m
-knows_none printer m fresh = subst (λ p. m.macros ≡ no_macros p.memory) (sym fresh.new.printer_is) fresh.new.macros
+defines_none : (printer : Printer) (m : MachineState) → IsFresh printer m → DefinesNone m
+defines_none printer m fresh = ap (λ (s : Store). s.definition) fresh.new.macros
 
 module _ (p : Printer) (first : MachineState) (begun : IsFresh p first) where
   -- on a printer that is like another a machine may stand where the one of that begins
@@ -55,7 +55,7 @@ module _ (p : Printer) (first : MachineState) (begun : IsFresh p first) where
     follower_follows : Follows first m
     follower_follows = (
       subst (λ r. IsLike r m.printer) (sym begun.new.printer_is) (subst (IsLike p) (sym fresh.new.printer_is) like),
-      knows_none q m fresh,
+      defines_none q m fresh,
     )
 
   followers_begin : (qs : List Printer) (ms : List MachineState) → AllByRecursion (IsLike p) qs → Each IsFresh qs ms →
@@ -86,11 +86,13 @@ module _ (p : Printer) (first : MachineState) (begun : IsFresh p first) where
       Each IsFresh (p ∷ qs) (first ∷ others_in fleet_mode first ms)
   fleet_begins Alone qs ms begins_as fresh = (begun, subst (λ rs. Each IsFresh rs []) (sym begins_as) tt)
   fleet_begins Together qs ms begins_as fresh = (begun, followers_begin qs ms begins_as.0 fresh)
+  fleet_begins Defining qs ms begins_as fresh = absurd begins_as
   fleet_begins Apart qs ms begins_as fresh = (begun, fresh)
 
   pub fleet_is_formed : (fleet_mode : FleetMode) (qs : List Printer) (ms : List MachineState) → BeginsAs fleet_mode p qs →
       Each IsFresh qs ms → IsFormed fleet_mode first ms
   fleet_is_formed Alone qs ms begins_as fresh = none_machines qs ms begins_as fresh
   fleet_is_formed Together qs ms begins_as fresh =
-      (knows_none p first begun, followers_follow qs ms begins_as.0 fresh, some_machines qs ms begins_as.1 fresh)
+      (defines_none p first begun, followers_follow qs ms begins_as.0 fresh, some_machines qs ms begins_as.1 fresh)
+  fleet_is_formed Defining qs ms begins_as fresh = absurd begins_as
   fleet_is_formed Apart qs ms begins_as fresh = tt

@@ -88,3 +88,9 @@ module _ (state : CheckState) where
 
   pub not_open_ends : (Q : Verdict → Type 0) → state ≡ Open → Ends state Q → ⊥
   not_open_ends Q is h = subst (λ s. Ends s Q) is h
+
+-- where it stands open what holds of no failure holds
+pub open_is_none : (P : Option Failure → Type 0) (state : CheckState) → is_open state ≡ true → StandsBy state P → P None
+open_is_none P Open is h = h
+open_is_none P (Judged verdict) is h = absurd cc
+open_is_none P (Stopped error) is h = absurd cc

@@ -29,7 +29,7 @@ use Rattle.sinks.proofs.Recording.{recorder_takes, TakesAll-recorded}
 use Rattle.preflight.specs.CheckState.{StandsAfter, StandsBy, is_open}
 use Rattle.preflight.specs.declared.check_state.CheckState.{CheckState}
 use Rattle.preflight.specs.Carriers.Each.{Each}
-use Rattle.preflight.specs.declared.lockstep.FleetMode.{FleetMode}
+use Rattle.preflight.specs.declared.fleet_mode.FleetMode.{FleetMode}
 use Rattle.preflight.specs.Carriers.FleetMode.{others_in, fleet_of, IsFormed, GoesAsOne}
 use Rattle.preflight.specs.Carriers.Lockstep.{Action, Execute, Fleet, carrying_of, is_last, Does, IsDone, Finds, FoundFrom, DiffersFrom}
 use Rattle.preflight.specs.Carriers.Lockstep.{WrongFrom, IsWrong, Compared, CountsPages, FindsAt, GoesInStep, PagesAt, StopsAt, StopsFor}

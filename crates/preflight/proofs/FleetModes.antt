@@ -1,99 +1,121 @@
 -- Machines that stand together go as the first one does.
-use Rattle.std.proofs.Common.{◌≡◌, ℕ, zero, suc, ◌+◌, ◌<◌, true, false, None, List, [], ◌∷◌, ◌++◌, length, take, get_or, map, unwrap_or}
-use Rattle.std.proofs.Common.{refl, ap, sym, ◌∙◌, subst, arith}
+use Rattle.std.proofs.Common.{◌≡◌, inl, inr, ℕ, zero, suc, ◌+◌, ◌<◌, Bool, true, false, not, is_some, Option, None, Some, List, []}
+use Rattle.std.proofs.Common.{◌∷◌, ◌++◌, length, take, get_or, map, unwrap_or, refl, ap, sym, ◌∙◌, subst, arith}
 use Rattle.std.specs.Prelude.{◌≢◌}
 use Rattle.std.specs.List.{AllByRecursion}
 use Rattle.std.proofs.lemmas.List.{take_more}
-use Rattle.macro_store.specs.Store.{Store, no_macros}
+use Rattle.macro_store.specs.Store.{Store}
 use Rattle.pcl_items.specs.Modes.{follows}
 use Rattle.pcl_items.specs.declared.pcl.command.Command.{Command}
 use Rattle.pcl_items.specs.Escapes.Value.{Amount}
 use Rattle.pcl_items.specs.Items.{Entry, Parameterized}
 use Rattle.device_profile.specs.Likeness.{IsLike}
 use Rattle.device_profile.specs.Printer.{Printer}
-use Rattle.page_env.specs.Likeness.{asks_alike, command_asks_alike}
-use Rattle.page_env.specs.Settings.{Settings, State, settings_at, state_at}
-use Rattle.page_machine.specs.Defining.{job_item_run, macros_after}
+use Rattle.page_env.specs.JobControl.{is_reset}
+use Rattle.page_env.specs.Likeness.{command_asks_alike}
+use Rattle.page_env.specs.Settings.{settings_at, state_at}
+use Rattle.page_machine.specs.Defining.{macros_after}
 use Rattle.page_machine.specs.Event.{Event}
-use Rattle.page_machine.specs.Likeness.{standing_as, RunsOnBoth, RunsOnLike}
+use Rattle.page_machine.specs.Likeness.{standing_as, LeavesStore, RunsOnLike}
 use Rattle.page_machine.specs.MachineState.{MachineState}
-use Rattle.page_machine.specs.Run.{Run}
-use Rattle.preflight.specs.declared.lockstep.FleetMode.{FleetMode}
-use Rattle.preflight.specs.declared.lockstep.FleetMode.TheVariants.{Alone, Together, Apart}
+use Rattle.page_machine.specs.PlainMacros.{LeavesEach, RunsPlain, RunsPlainAlike}
+use Rattle.preflight.specs.declared.fleet_mode.FleetMode.{FleetMode}
+use Rattle.preflight.specs.declared.fleet_mode.FleetMode.TheVariants.{Alone, Together, Defining, Apart}
 use Rattle.preflight.specs.Carriers.Each.{Each}
-use Rattle.preflight.specs.Carriers.FleetMode.{others_in, KnowsNoMacro, Follows, IsFormed, AskAlike, GoesAsOne, NoneDefines, StandsAs}
+use Rattle.preflight.specs.Carriers.FleetMode.{others_in, AskAlike, AsksNothing, DefinesNone, Follows, GoesAsOne, IsFormed, NoneDefines}
+use Rattle.preflight.specs.Carriers.FleetMode.{RunsAsFirst, RunsAsOne, ShareMacro, StandsAs}
 use Rattle.preflight.specs.Carriers.Lockstep.{Execute, Does}
 
 module _ (law : (item : Entry) → RunsOnLike item) (item : Entry) (events : List Event) (first first' : MachineState)
     (does : Does (Execute item) events first first') where
-  abbrev id_of : ℕ
-  id_of = first.page.env.job.macro_id
+  -- what it does as on the first one it does on a machine that stands there
+  follower_does : (m : MachineState) → IsLike first.printer m.printer → RunsAsFirst first item m →
+      Does (Execute item) events (standing_as first m) (standing_as first' m)
+  follower_does m like runs = record {
+    is = ap (λ f. standing_as f m) does.is ∙ (λ i. record first {
+      printer = m.printer;
+      page = first'.page;
+      macros = (sym runs.macros) i;
+      mode = unwrap_or (follows first.mode item) first.mode;
+      stopped = false;
+    });
+    peaks = does.peaks;
+    run = λ panel. runs.same like panel ∙ does.run panel;
+  }
 
-  -- an item that does not ask the device leaves no macro known
-  module _ (m : MachineState) (like : IsLike first.printer m.printer) (asks : asks_alike first.printer m.printer item ≡ true) where
-    abbrev both : RunsOnBoth first.printer m.printer item
-    both = law item first.printer m.printer like asks
+  followers_do : (others : List MachineState) → AllByRecursion (Follows first) others → AllByRecursion (RunsAsFirst first item) others →
+      Each (Does (Execute item) events) (map (standing_as first) others) (map (standing_as first') others)
+  followers_do [] follow runs = tt
+  followers_do (m ∷ others) follow runs = (follower_does m follow.0.0 runs.0, followers_do others follow.1 runs.1)
 
-    stays : (limit : ℕ) (macros : Store) → macros ≡ no_macros limit → macros_after id_of item macros ≡ no_macros limit
-    stays limit macros known = ap (macros_after id_of item) known ∙ both.macros id_of limit
+  -- an item that asks the others nothing else runs on them as on the first one
+  asking_run : (others : List MachineState) → DefinesNone first → AllByRecursion (Follows first) others →
+      first.page.env.job.overlay ≡ None → AskAlike first item others → AllByRecursion (RunsAsFirst first item) others
+  asking_run [] none follow overlay asks = tt
+  asking_run (m ∷ others) none follow overlay asks = (
+    record {
+      same = λ like panel.
+          (law item first.printer m.printer like asks.0.asks).same (settings_at panel first.defaults) first.macros m.macros
+          (state_at panel first.page) none follow.0.1 overlay;
+      macros =
+          (law item first.printer m.printer follow.0.0 asks.0.asks).macros first.page.env.job.macro_id m.macros follow.0.1 asks.0.leaves;
+    },
+    asking_run others none follow.1 overlay asks.1,
+  )
 
-    follower_does : KnowsNoMacro first → KnowsNoMacro m → first.page.env.job.overlay ≡ None →
-        Does (Execute item) events (standing_as first m) (standing_as first' m)
-    follower_does none known overlay = record {
-      is = ap (λ f. standing_as f m) does.is ∙ (λ i. record first {
-        printer = m.printer;
-        page = first'.page;
-        macros = (known ∙ sym (stays m.printer.memory m.macros known)) i;
-        mode = unwrap_or (follows first.mode item) first.mode;
-        stopped = false;
-      });
-      peaks = does.peaks;
-      run = λ panel.
-          let defaults : Settings = settings_at panel first.defaults in
-          let s : State = state_at panel first.page in
-          let own : (printer : Printer) (macros : Store) → Run =
-          λ printer macros. job_item_run (record { printer = printer; defaults = defaults; macros = macros }) item s in
-          ap (own m.printer) known ∙ both.same defaults s overlay ∙ sym (ap (own first.printer) none) ∙ does.run panel;
-    }
+  asking_leaves : (others : List MachineState) → DefinesNone first → AllByRecursion (Follows first) others → (others ≢ []) →
+      LeavesStore item first.macros → AskAlike first item others →
+      macros_after first.page.env.job.macro_id item first.macros ≡ first.macros
+  asking_leaves [] none follow some leaves asks = absurd (some refl)
+  asking_leaves (m ∷ others) none follow some leaves asks =
+      (law item first.printer m.printer follow.0.0 asks.0.asks).macros first.page.env.job.macro_id first.macros none leaves
 
-    -- so it goes on
-    first_knows_none : KnowsNoMacro first → KnowsNoMacro first'
-    first_knows_none none = subst KnowsNoMacro (sym does.is) (stays first.printer.memory first.macros none)
+  runs_as_one : (others : List MachineState) → IsFormed Together first others → GoesAsOne Together first others item →
+      RunsAsOne first item others
+  runs_as_one others formed (inl asks) = record {
+    macros = asking_leaves others formed.0 formed.1 formed.2 asks.leaves asks.alike;
+    each = asking_run others formed.0 formed.1 asks.no_overlay asks.alike;
+  }
+  runs_as_one others formed (inr runs) = runs
+
+  -- and the first one still defines none
+  still_none : macros_after first.page.env.job.macro_id item first.macros ≡ first.macros → DefinesNone first → DefinesNone first'
+  still_none macros none = ap (λ (m : MachineState). m.macros.definition) does.is ∙ ap (λ (s : Store). s.definition) macros ∙ none
 
   same_printer : first'.printer ≡ first.printer
   same_printer = ap (λ (m : MachineState). m.printer) does.is
-
-  followers_do : (others : List MachineState) → KnowsNoMacro first → AllByRecursion (Follows first) others →
-      first.page.env.job.overlay ≡ None → AskAlike first item others →
-      Each (Does (Execute item) events) (map (standing_as first) others) (map (standing_as first') others)
-  followers_do [] none follow overlay asks = tt
-  followers_do (m ∷ others) none follow overlay asks =
-      (follower_does m follow.0.0 asks.0 none follow.0.1 overlay, followers_do others none follow.1 overlay asks.1)
 
   still_follow : (others : List MachineState) → AllByRecursion (Follows first) others → AllByRecursion (Follows first') others
   still_follow [] follow = tt
   still_follow (m ∷ others) follow =
       ((subst (λ printer. IsLike printer m.printer) (sym same_printer) follow.0.0, follow.0.1), still_follow others follow.1)
 
-  still_knows_none : (others : List MachineState) → KnowsNoMacro first → AllByRecursion (Follows first) others → (others ≢ []) →
-      AskAlike first item others → KnowsNoMacro first'
-  still_knows_none [] none follow some asks = absurd (some refl)
-  still_knows_none (m ∷ others) none follow some asks = first_knows_none m follow.0.0 asks.0 none
-
   -- what the first does all do, and they stand so again
   pub all_do : (fleet_mode : FleetMode) (others : List MachineState) → IsFormed fleet_mode first others →
       GoesAsOne fleet_mode first others item →
       Each (Does (Execute item) events) (first ∷ others_in fleet_mode first others) (first' ∷ others_in fleet_mode first' others)
   all_do Alone others formed goes = (does, tt)
-  all_do Together others formed goes = (does, followers_do others formed.0 formed.1 goes.0 goes.1)
+  all_do Together others formed goes = (does, followers_do others formed.1 (runs_as_one others formed goes).each)
+  all_do Defining others formed goes = absurd goes
   all_do Apart others formed goes = absurd goes
 
   pub still_formed : (fleet_mode : FleetMode) (others : List MachineState) → IsFormed fleet_mode first others →
       GoesAsOne fleet_mode first others item → IsFormed fleet_mode first' others
   still_formed Alone others formed goes = formed
   still_formed Together others formed goes =
-      (still_knows_none others formed.0 formed.1 formed.2 goes.1, still_follow others formed.1, formed.2)
+      (still_none (runs_as_one others formed goes).macros formed.0, still_follow others formed.1, formed.2)
+  still_formed Defining others formed goes = absurd goes
   still_formed Apart others formed goes = tt
+
+-- ---- what an answer says
+
+pub not_true : (b : Bool) → not b ≡ true → b ≡ false
+not_true true e = sym e
+not_true false e = refl
+
+pub none_is : {X : Type 0} (o : Option X) → is_some o ≡ false → o ≡ None
+none_is None e = refl
+none_is (Some x) e = absurd cc
 
 -- ---- machines one after another
 
@@ -126,9 +148,60 @@ pub none_asks : (first : MachineState) (command : Command) (n : Amount) →
     ((p q : Printer) (n : Amount) → command_asks_alike p q command n ≡ true) → (others : List MachineState) →
     AskAlike first (Parameterized command n) others
 none_asks first command n same [] = tt
-none_asks first command n same (m ∷ others) = (same first.printer m.printer n, none_asks first command n same others)
+none_asks first command n same (m ∷ others) =
+    (record { asks = same first.printer m.printer n; leaves = λ e. absurd cc }, none_asks first command n same others)
 
--- no definition is open where no macro is known
+-- so does any item
+asks_none : (first : MachineState) (item : Entry) → AsksNothing item → (others : List MachineState) → AskAlike first item others
+asks_none first item nothing [] = tt
+asks_none first item nothing (m ∷ others) = (
+  record { asks = nothing.asks first.printer m.printer; leaves = no_reset item nothing.no_reset m.macros },
+  asks_none first item nothing others,
+)
+  where
+    no_reset : (item : Entry) → is_reset item ≡ false → (macros : Store) → LeavesStore item macros
+    no_reset item none macros = λ e. let both : true ≡ false = sym e ∙ none in absurd cc
+
+pub command_as_one : (first : MachineState) (command : Command) (n : Amount) (others : List MachineState) →
+    ((p q : Printer) (n : Amount) → command_asks_alike p q command n ≡ true) → first.page.env.job.overlay ≡ None →
+    GoesAsOne Together first others (Parameterized command n)
+command_as_one first command n others same overlay =
+    inl (record { no_overlay = overlay; leaves = λ e. absurd cc; alike = none_asks first command n same others })
+
+pub item_as_one : (first : MachineState) (item : Entry) (others : List MachineState) → AsksNothing item →
+    first.page.env.job.overlay ≡ None → GoesAsOne Together first others item
+item_as_one first item others nothing overlay =
+    inl (record {
+      no_overlay = overlay;
+      leaves = λ e. let both : true ≡ false = sym e ∙ nothing.no_reset in absurd cc;
+      alike = asks_none first item nothing others;
+    })
+
+-- no definition is open on any
 pub followers_define_none : (first : MachineState) (others : List MachineState) → AllByRecursion (Follows first) others → NoneDefines others
 followers_define_none first [] h = tt
-followers_define_none first (m ∷ others) h = (ap (λ (s : Store). s.definition) h.0.1, followers_define_none first others h.1)
+followers_define_none first (m ∷ others) h = (h.0.1, followers_define_none first others h.1)
+
+-- ---- a macro of single steps
+
+-- machines that share the macro run it as the first one does
+sharers_run : RunsPlainAlike → LeavesEach → (first : MachineState) (item : Entry) (body : List Entry) → RunsPlain first item body →
+    (others : List MachineState) → ShareMacro first body others → AllByRecursion (RunsAsFirst first item) others
+sharers_run alike leaves first item body runs [] share = tt
+sharers_run alike leaves first item body runs (m ∷ others) share = (
+  record {
+    same = λ like panel.
+        alike first.printer m.printer (settings_at panel first.defaults) first.macros m.macros item (state_at panel first.page) body
+        like runs.running runs.plain runs.has share.0.has runs.may_run.levels share.0.may_run.levels;
+    macros = leaves item first.page.env.job.macro_id m.macros runs.running share.0.may_run.no_definition;
+  },
+  sharers_run alike leaves first item body runs others share.1,
+)
+
+pub plain_as_one : RunsPlainAlike → LeavesEach → (first : MachineState) (item : Entry) (body : List Entry) → RunsPlain first item body →
+    (others : List MachineState) → ShareMacro first body others → GoesAsOne Together first others item
+plain_as_one alike leaves first item body runs others share =
+    inr (record {
+      macros = leaves item first.page.env.job.macro_id first.macros runs.running runs.may_run.no_definition;
+      each = sharers_run alike leaves first item body runs others share;
+    })

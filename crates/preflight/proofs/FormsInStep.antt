@@ -5,7 +5,7 @@ use Rattle.std.proofs.Common.{arith}
 use Rattle.device_profile.specs.Printer.{Printer}
 use Rattle.pcl_items.specs.declared.pcl.command.Command.{Command}
 use Rattle.pcl_items.specs.Escapes.Value.{Amount}
-use Rattle.pcl_items.specs.Items.{Entry, Parameterized}
+use Rattle.pcl_items.specs.Items.{Entry, HalfLineFeed, Parameterized}
 use Rattle.page_env.specs.declared.page.Page.{Page}
 use Rattle.page_env.specs.declared.lookup.FormBounds.{FormBounds}
 use Rattle.page_env.specs.Forms.{Across, AcrossDecipoints, Columns, Down, DownDecipoints, Filled, Form, Height, LeavesRest, Rows}
@@ -19,20 +19,20 @@ use Rattle.page_env.specs.TextLines.{behind}
 use Rattle.page_env.specs.TextMeasure.{TextMeasure}
 use Rattle.page_env.proofs.FormFacts.{bounds_still, measure_still}
 use Rattle.page_machine.specs.Event.{Event, Marked}
-use Rattle.page_machine.specs.Forms.{FormsOn, RunsForm}
+use Rattle.page_machine.specs.Forms.{FormsOn, RunsFeed, RunsForm}
 use Rattle.page_machine.specs.Likeness.{RunsOnLike}
 use Rattle.page_machine.specs.MachineState.{MachineState}
 use Rattle.page_machine.specs.Run.{peaks_of}
 use Rattle.page_machine.specs.TextLines.{MeasuresLines, PrintsLines, machine_behind}
 use Rattle.sinks.specs.declared.counts.Counts.{Counts}
 use Rattle.sinks.specs.Counts.{counts_after}
-use Rattle.preflight.specs.declared.lockstep.FleetMode.{FleetMode}
-use Rattle.preflight.specs.declared.lockstep.FleetMode.TheVariants.{Alone, Together, Apart}
+use Rattle.preflight.specs.declared.fleet_mode.FleetMode.{FleetMode}
+use Rattle.preflight.specs.declared.fleet_mode.FleetMode.TheVariants.{Alone, Together, Defining, Apart}
 use Rattle.preflight.specs.Carriers.Each.{Each}
-use Rattle.preflight.specs.Carriers.FleetMode.{others_in, IsFormed, GoesAsOne}
+use Rattle.preflight.specs.Carriers.FleetMode.{AskAlike, others_in, IsFormed, GoesAsOne}
 use Rattle.preflight.specs.Carriers.FormsInStep.{FirstForms, FirstKeeps, FirstMeasures}
 use Rattle.preflight.specs.Carriers.Lockstep.{Execute, Does}
-use Rattle.preflight.proofs.FleetModes.{all_do, none_asks}
+use Rattle.preflight.proofs.FleetModes.{all_do, command_as_one}
 
 -- it asks nothing of the device
 form_asks : (form : Form) (p q : Printer) (n : Amount) → command_asks_alike p q (command_of form) n ≡ true
@@ -70,12 +70,42 @@ module _ (law : (item : Entry) → RunsOnLike item) (command : Command) (n : Amo
 
   as_one : (f : FleetMode) → (f ≡ Alone) ⊎ (f ≡ Together) → GoesAsOne f first others item
   as_one Alone h = tt
-  as_one Together h = (bare, none_asks first command n asks_nothing others)
+  as_one Together h = command_as_one first command n others asks_nothing bare
+  as_one Defining (inl e) = absurd cc
+  as_one Defining (inr e) = absurd cc
   as_one Apart (inl e) = absurd cc
   as_one Apart (inr e) = absurd cc
 
   pub all_form : Each (Does (Execute item) events) (first ∷ others_in fleet_mode first others) (first' ∷ others_in fleet_mode first' others)
   all_form = all_do law item events first first' first_does fleet_mode others formed (as_one fleet_mode together)
+
+module _ (law : (item : Entry) → RunsOnLike item) (fleet_mode : FleetMode) (first first' : MachineState) (others : List MachineState)
+    (running : first.stopped ≡ false) (formed : IsFormed fleet_mode first others)
+    (together : (fleet_mode ≡ Alone) ⊎ (fleet_mode ≡ Together))
+    (bare : first.page.env.job.overlay ≡ None) (runs : RunsFeed first first') where
+  feed_does : Does (Execute HalfLineFeed) [] first first'
+  feed_does = record {
+    is = runs.is ∙ (λ i. record first { page = first'.page; macros = sym runs.macros i; mode = sym runs.mode i; stopped = running i });
+    peaks = λ panel. peaks_of (state_at panel first'.page);
+    run = runs.run;
+  }
+
+  -- it asks nothing of the device
+  feed_asks : (machines : List MachineState) → AskAlike first HalfLineFeed machines
+  feed_asks [] = tt
+  feed_asks (m ∷ machines) = (record { asks = refl; leaves = λ e. absurd cc }, feed_asks machines)
+
+  feed_as_one : (f : FleetMode) → (f ≡ Alone) ⊎ (f ≡ Together) → GoesAsOne f first others HalfLineFeed
+  feed_as_one Alone h = tt
+  feed_as_one Together h = inl (record { no_overlay = bare; leaves = λ e. absurd cc; alike = feed_asks others })
+  feed_as_one Defining (inl e) = absurd cc
+  feed_as_one Defining (inr e) = absurd cc
+  feed_as_one Apart (inl e) = absurd cc
+  feed_as_one Apart (inr e) = absurd cc
+
+  pub all_feed :
+      Each (Does (Execute HalfLineFeed) []) (first ∷ others_in fleet_mode first others) (first' ∷ others_in fleet_mode first' others)
+  all_feed = all_do law HalfLineFeed [] first first' feed_does fleet_mode others formed (feed_as_one fleet_mode together)
 
 -- no marks are counted as none
 pub no_marks : (shapes : List Shape) (counts : Counts) → length shapes ≡ 0 → counts ≡ counts_after (map Marked shapes) counts
@@ -148,5 +178,6 @@ prints_keep (code ∷ codes) look place old new prints =
 pub not_apart : (f : FleetMode) → (f ≡ Alone) ⊎ (f ≡ Together) → f ≡ Apart → ⊥
 not_apart Alone h is = absurd cc
 not_apart Together h is = absurd cc
+not_apart Defining h is = absurd cc
 not_apart Apart (inl e) is = absurd cc
 not_apart Apart (inr e) is = absurd cc

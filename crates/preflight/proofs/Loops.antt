@@ -43,6 +43,10 @@ module _ {A P : Type 0} (first : Checking A P) where
   pub may_again : (now : Checking A P) → CheckGoesOn first now → MayExecute now
   may_again now goes = record { running = goes.through.running; modes = goes.through.modes; stands = goes.stands }
 
+  -- nothing was executed
+  pub goes_same : (mid new : Checking A P) → new ≡ mid → CheckGoesOn first mid → CheckGoesOn first new
+  goes_same mid new same goes = subst (CheckGoesOn first) (sym same) goes
+
   -- the lexer gave nothing
   pub goes_here : (mid : Checking A P) (lexer : LexerState) → lexer ≡ mid.lexer → CheckGoesOn first mid →
       CheckGoesOn first (record mid { lexer = lexer })

@@ -7,8 +7,8 @@ use Rattle.page_machine.specs.Event.{Event, Marked}
 use Rattle.page_machine.specs.Likeness.{RunsOnLike}
 use Rattle.page_machine.specs.MachineState.{MachineState}
 use Rattle.page_machine.specs.PenLines.{MovesPen}
-use Rattle.preflight.specs.declared.lockstep.FleetMode.{FleetMode}
-use Rattle.preflight.specs.declared.lockstep.FleetMode.TheVariants.{Alone, Together, Apart}
+use Rattle.preflight.specs.declared.fleet_mode.FleetMode.{FleetMode}
+use Rattle.preflight.specs.declared.fleet_mode.FleetMode.TheVariants.{Alone, Together, Defining, Apart}
 use Rattle.preflight.specs.Carriers.Each.{Each}
 use Rattle.preflight.specs.Carriers.FleetMode.{others_in, IsFormed, AskAlike, GoesAsOne}
 use Rattle.preflight.specs.Carriers.Lockstep.{Execute, Does}
@@ -34,11 +34,13 @@ module _ (law : (item : Entry) → RunsOnLike item) (box : PenBounds) (motion : 
 
   asks_nothing : (ms : List MachineState) → AskAlike first item ms
   asks_nothing [] = tt
-  asks_nothing (m ∷ ms) = (refl, asks_nothing ms)
+  asks_nothing (m ∷ ms) = (record { asks = refl; leaves = λ e. absurd cc }, asks_nothing ms)
 
   as_one : (f : FleetMode) → (f ≡ Alone) ⊎ (f ≡ Together) → GoesAsOne f first others item
   as_one Alone h = tt
-  as_one Together h = (bare, asks_nothing others)
+  as_one Together h = inl (record { no_overlay = bare; leaves = λ e. absurd cc; alike = asks_nothing others })
+  as_one Defining (inl e) = absurd cc
+  as_one Defining (inr e) = absurd cc
   as_one Apart (inl e) = absurd cc
   as_one Apart (inr e) = absurd cc
 

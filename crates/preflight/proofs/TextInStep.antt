@@ -1,6 +1,6 @@
 -- Lines of text on the machines of a fleet, which go in step.
-use Rattle.std.proofs.Common.{◌≡◌, ℕ, zero, suc, ◌+◌, ◌<◌, ◌≤◌, ◌==◌, Bool, true, false, cond, List, [], ◌∷◌, ◌++◌, length, take, drop}
-use Rattle.std.proofs.Common.{set, get_or, map, Option, None, Some, refl, ap, sym, ◌∙◌, subst, append_assoc, append-nil, arith}
+use Rattle.std.proofs.Common.{◌≡◌, ℕ, zero, suc, ◌+◌, ◌<◌, ◌≤◌, ◌==◌, Bool, is_some, true, false, cond, List, [], ◌∷◌, ◌++◌, length}
+use Rattle.std.proofs.Common.{take, drop, set, get_or, map, Option, None, Some, refl, ap, sym, ◌∙◌, subst, append_assoc, append-nil, arith}
 use Rattle.std.specs.List.{AllByRecursion}
 use Rattle.std.proofs.lemmas.List.{take_more, take_more_set, drop_more, drop-set-lt, drop-drop, take_all, take-take}
 use Rattle.std.proofs.lemmas.List.{length-set}
@@ -13,7 +13,6 @@ use Rattle.pcl_lexer.specs.Reading.{left}
 use Rattle.pcl_lexer.specs.Lexing.State.{LexerState}
 use Rattle.pcl_lexer.specs.Lexing.Passing.{ahead_in, ahead_of, ReadsLines}
 use Rattle.pcl_items.specs.Lines.{line_item, line_items}
-use Rattle.macro_store.specs.Store.{Store}
 use Rattle.device_profile.specs.Likeness.{IsLike}
 use Rattle.device_profile.specs.Printer.{Printer}
 use Rattle.page_env.specs.declared.mark.Glyph.{Glyph}
@@ -27,6 +26,7 @@ use Rattle.page_env.specs.Settings.{settings_at, state_at}
 use Rattle.page_env.specs.TextLines.{AllGo, behind, glyph_at, page_behind, page_behind_all}
 use Rattle.page_env.specs.TextMeasure.{AllHaveRoom, TextMeasure}
 use Rattle.page_env.proofs.TextRooms.{room_goes}
+use Rattle.page_machine.specs.Defining.{is_defining}
 use Rattle.page_machine.specs.Event.{Marked}
 use Rattle.page_machine.specs.Run.{peaks_of}
 use Rattle.page_machine.specs.Job.{ItemRun, events_of}
@@ -38,9 +38,9 @@ use Rattle.sinks.specs.declared.counts.Counts.{Counts}
 use Rattle.sinks.specs.Counts.{counts_after, no_counts}
 use Rattle.sinks.proofs.TextLines.{shapes_of, lines_follow, line_mode}
 use Rattle.preflight.specs.Carriers.Each.{Each}
-use Rattle.preflight.specs.declared.lockstep.FleetMode.{FleetMode}
-use Rattle.preflight.specs.declared.lockstep.FleetMode.TheVariants.{Alone, Together, Apart}
-use Rattle.preflight.specs.Carriers.FleetMode.{others_in, KnowsNoMacro, Follows, IsFormed}
+use Rattle.preflight.specs.declared.fleet_mode.FleetMode.{FleetMode}
+use Rattle.preflight.specs.declared.fleet_mode.FleetMode.TheVariants.{Alone, Together, Defining, Apart}
+use Rattle.preflight.specs.Carriers.FleetMode.{others_in, DefinesNone, Follows, IsFormed, StandsAlike}
 use Rattle.preflight.specs.Carriers.Lockstep.{Execute, AreRunning, AreIn, Does, GoesAlike}
 use Rattle.preflight.specs.Carriers.TextInStep.{GoOn, GoOnAll, PrintInStep}
 use Rattle.preflight.specs.Carriers.Checking.{Along, HasExecuted}
@@ -123,6 +123,10 @@ print_in_step (code ∷ codes) look place old new counts running in_pcl h =
 
 -- ---- machines that stand together
 
+-- a definition is open or not
+open_or_none : (m : MachineState) → is_defining m.macros ≡ true → DefinesNone m → ⊥
+open_or_none m opened none = let both : true ≡ false = sym opened ∙ ap is_some none in absurd cc
+
 -- lines of text ask nothing of the device
 line_asks : (p q : Printer) (code : ℕ) → asks_alike p q (line_item code) ≡ true
 line_asks p q code = by (code == 13) (code == 10)
@@ -160,7 +164,7 @@ module _ (law : (item : Entry) → GoesOnLike item) (look : TextAppearance) wher
     follower_prints m follows =
         subst (λ f. PrintsLines look place codes (standing_as first m) (standing_as f m))
         (sym (printed_is codes look place first first' prints))
-        (prints_lines codes look place (standing_as first m) (ap (λ (s : Store). s.definition) follows.1)
+        (prints_lines codes look place (standing_as first m) follows.1
         (goes_on_like first.printer m.printer follows.0 codes place first.page go))
 
     followers_print : (others : List MachineState) → AllByRecursion (Follows first) others →
@@ -174,31 +178,35 @@ module _ (law : (item : Entry) → GoesOnLike item) (look : TextAppearance) wher
 
     -- what the first prints the others print, and all stand so again
     pub all_print : (fleet_mode : FleetMode) (others others' : List MachineState) → IsFormed fleet_mode first others →
-        (fleet_mode ≡ Apart → Each (PrintsLines look place codes) others others') → ((fleet_mode ≡ Apart → ⊥) → others' ≡ others) →
+        DefinesNone first → (fleet_mode ≡ Apart → Each (PrintsLines look place codes) others others') →
+        ((fleet_mode ≡ Apart → ⊥) → others' ≡ others) →
         Each (PrintsLines look place codes) (first ∷ others_in fleet_mode first others) (first' ∷ others_in fleet_mode first' others')
-    all_print Alone others others' formed apart same = (prints, tt)
-    all_print Together others others' formed apart same = (
+    all_print Alone others others' formed none apart same = (prints, tt)
+    all_print Together others others' formed none apart same = (
       prints,
       subst
           (λ (ms : List MachineState).
           Each (PrintsLines look place codes) (map (standing_as first) others) (map (standing_as first') ms))
           (sym (same (λ e. cc))) (followers_print others formed.1),
     )
-    all_print Apart others others' formed apart same = (prints, apart refl)
+    all_print Defining others others' formed none apart same = absurd (open_or_none first formed.0 none)
+    all_print Apart others others' formed none apart same = (prints, apart refl)
 
     pub stay_formed : (fleet_mode : FleetMode) (others others' : List MachineState) → IsFormed fleet_mode first others →
-        ((fleet_mode ≡ Apart → ⊥) → others' ≡ others) → IsFormed fleet_mode first' others'
-    stay_formed Alone others others' formed same = same (λ e. cc) ∙ formed
-    stay_formed Together others others' formed same =
+        DefinesNone first → ((fleet_mode ≡ Apart → ⊥) → others' ≡ others) → IsFormed fleet_mode first' others'
+    stay_formed Alone others others' formed none same = same (λ e. cc) ∙ formed
+    stay_formed Together others others' formed none same =
         subst (λ ms. IsFormed Together first' ms) (sym (same (λ e. cc)))
-        (subst KnowsNoMacro (sym (printed_is codes look place first first' prints)) formed.0, still_follow others formed.1, formed.2)
-    stay_formed Apart others others' formed same = tt
+        (subst DefinesNone (sym (printed_is codes look place first first' prints)) formed.0, still_follow others formed.1, formed.2)
+    stay_formed Defining others others' formed none same = absurd (open_or_none first formed.0 none)
+    stay_formed Apart others others' formed none same = tt
 
 -- machines on which the first one's lines go are in mode PCL as it is
 pub all_in_pcl : (look : TextAppearance) (from : TextPlace) (codes : List ℕ) (fleet_mode : FleetMode) (first : MachineState)
-    (others : List MachineState) → first.mode ≡ modes.Pcl → (fleet_mode ≡ Apart → GoOnAll look from codes others) →
+    (others : List MachineState) → IsFormed fleet_mode first others → first.mode ≡ modes.Pcl →
+    (fleet_mode ≡ Apart → GoOnAll look from codes others) →
     AreIn modes.Pcl (first ∷ others_in fleet_mode first others)
-all_in_pcl look from codes fleet_mode first others in_pcl apart = (in_pcl, others_in_pcl fleet_mode apart)
+all_in_pcl look from codes fleet_mode first others formed in_pcl apart = (in_pcl, others_in_pcl fleet_mode formed apart)
   where
     follow_in_pcl : (ms : List MachineState) → AreIn modes.Pcl (map (standing_as first) ms)
     follow_in_pcl [] = tt
@@ -208,11 +216,16 @@ all_in_pcl look from codes fleet_mode first others in_pcl apart = (in_pcl, other
     go_in_pcl [] h = tt
     go_in_pcl (m ∷ ms) h = (h.0.mode, go_in_pcl ms h.1)
 
-    others_in_pcl : (fleet_mode : FleetMode) → (fleet_mode ≡ Apart → GoOnAll look from codes others) →
+    alike_in_pcl : (ms : List MachineState) → AllByRecursion (StandsAlike first) ms → AreIn modes.Pcl ms
+    alike_in_pcl [] h = tt
+    alike_in_pcl (m ∷ ms) h = (h.0.mode ∙ in_pcl, alike_in_pcl ms h.1)
+
+    others_in_pcl : (fleet_mode : FleetMode) → IsFormed fleet_mode first others → (fleet_mode ≡ Apart → GoOnAll look from codes others) →
         AreIn modes.Pcl (others_in fleet_mode first others)
-    others_in_pcl Alone apart = tt
-    others_in_pcl Together apart = follow_in_pcl others
-    others_in_pcl Apart apart = go_in_pcl others (apart refl)
+    others_in_pcl Alone formed apart = tt
+    others_in_pcl Together formed apart = follow_in_pcl others
+    others_in_pcl Defining formed apart = alike_in_pcl others formed.1
+    others_in_pcl Apart formed apart = go_in_pcl others (apart refl)
 
 -- ---- bytes that go on all machines
 

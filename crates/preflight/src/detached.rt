@@ -6,7 +6,8 @@ ghost use Rattle.preflight.specs.Carriers.Detached.{AreFormed, AreLeftOf, attach
 ghost use Rattle.preflight.specs.Carriers.Detached.{attached_fleet};
 ghost use Rattle.preflight.specs.Carriers.Lockstep.{AreRunning, machines_of};
 
-use crate::lockstep::{FleetMode, Lockstep};
+use crate::fleet_mode::FleetMode;
+use crate::lockstep::Lockstep;
 use device_profile::Profile;
 use page_machine::{DetachedMachine, Machine};
 use sinks::{Counts, Recorder};

@@ -6,7 +6,7 @@ ghost use Rattle.std.specs.Prelude.{IsTrue};
 ghost use Rattle.page_env.specs.declared.lookup.FormBounds.{FormBounds};
 ghost use Rattle.page_env.specs.Mark.{Shape};
 ghost use Rattle.page_machine.specs.Event.{Marked};
-ghost use Rattle.pcl_items.specs.Items.{Parameterized, amount, simple_view};
+ghost use Rattle.pcl_items.specs.Items.{Entry, Parameterized, amount, simple_view};
 ghost use Rattle.pcl_items.specs.Lines.{AreLines};
 ghost use Rattle.sinks.specs.Counts.{counts_after};
 ghost use Rattle.preflight.specs.Carriers.FormsInStep.{FirstForms, FirstKeeps, FirstMeasures};
@@ -18,7 +18,8 @@ ghost use Rattle.preflight.specs.CheckState.{StandsBy, is_open};
 ghost use Rattle.preflight.specs.declared.check_state.CheckState.TheVariants.{Open};
 
 use crate::check_state::CheckState;
-use crate::lockstep::{FleetMode, Lockstep};
+use crate::fleet_mode::FleetMode;
+use crate::lockstep::Lockstep;
 use judgement::FailingItem;
 use page_env::{FormBounds, TextMeasure, is_of_forms, items_go_on_like_printers};
 use page_machine::items_run_on_like_printers;
@@ -59,8 +60,34 @@ impl<'p, A: Allocator + Copy, P: Allocator> Lockstep<'p, A, P> {
         if self.form(read.item, known) {
             return true;
         }
-        // What a call reads lies in memory: it gets a copy, and a command that is known to go stays
-        // in registers.
+        self.step_copied(read, known, measure, state, failing_item)
+    }
+
+    /// Has each machine execute a command as `step_read` does, and keeps nothing of the page.
+    // What a call reads lies in memory: it gets a copy, and a command that is known to go stays in
+    // registers. The copy has a function of its own, so that no room is cleared for it before.
+    #[inline(always)]
+    fn step_copied(
+        &mut self,
+        read: PlacedItem,
+        known: &mut Option<FormBounds>,
+        measure: &mut Option<TextMeasure<'p, P>>,
+        state: &mut CheckState,
+        failing_item: &mut Option<FailingItem>,
+    ) -> bool
+        requires running { AreRunning (machines_of self.old) }
+        requires admitted { AllAdmit (Execute (simple_view read.item)) (machines_of self.old) }
+        requires open { state.old ≡ Open }
+        ensures came { StandsBy state.new
+            (λ failed. GoesInStep (Execute (simple_view read.item)) read.place
+            (machines_of self.old) (machines_of self.new)
+            (counts_of self.old) (counts_of self.new) failed) }
+        ensures open { result ≡ is_open state.new }
+        ensures told { IsFalse result → Names failing_item.new (simple_view read.item) }
+        ensures untold { IsTrue result → failing_item.new ≡ failing_item.old }
+        ensures no_bounds { known.new ≡ None }
+        ensures no_measure { measure.new ≡ None }
+    {
         let PlacedItem { place, item } = read;
         let read = PlacedItem { place, item };
         self.step_unknown(read, known, measure, state, failing_item)
@@ -95,8 +122,8 @@ impl<'p, A: Allocator + Copy, P: Allocator> Lockstep<'p, A, P> {
         self.step_read(read, state, failing_item)
     }
 
-    /// Has the machines execute a command that moves the cursor or makes a rectangle, where it is
-    /// known that it goes on all of them, and tells whether it was executed.
+    /// Has the machines execute a command that moves the cursor or makes a rectangle, or a half
+    /// line feed, where it is known that it goes on all of them, and tells whether it was executed.
     #[inline(always)]
     fn form(&mut self, item: SimpleItem, known: &mut Option<FormBounds>) -> bool
         requires running { AreRunning (machines_of self.old) }
@@ -109,14 +136,56 @@ impl<'p, A: Allocator + Copy, P: Allocator> Lockstep<'p, A, P> {
         ensures kept { IsTrue result → FirstKeeps (machines_of self.old) (machines_of self.new) }
         ensures same { IsFalse result → self.new ≡ self.old }
     {
-        let SimpleItem::Parameterized(command, n) = item else {
-            return false;
-        };
+        match item {
+            SimpleItem::Parameterized(command, n) => self.form_command(command, n, known),
+            SimpleItem::HalfLineFeed => self.feed_half_line(known),
+            _ => false,
+        }
+    }
+
+    /// Has the machines execute such a command, and looks the page up for it where it is not known.
+    #[inline(always)]
+    fn form_command(&mut self, command: Command, n: Number, known: &mut Option<FormBounds>) -> bool
+        requires running { AreRunning (machines_of self.old) }
+        requires known { IfSome known.old (λ bounds. FirstForms bounds (machines_of self.old)) }
+        ensures formed { IsTrue result → GoesAlike (Execute (Parameterized command (amount n)))
+            (machines_of self.old) (machines_of self.new)
+            (counts_of self.old) (counts_of self.new) }
+        ensures known { IsTrue result →
+            IfSome known.new (λ bounds. FirstForms bounds (machines_of self.new)) }
+        ensures kept { IsTrue result → FirstKeeps (machines_of self.old) (machines_of self.new) }
+        ensures same { IsFalse result → self.new ≡ self.old }
+    {
         self.keep_bounds(command, known);
         match &*known {
             None => false,
             Some(lent) => self.form_on(lent, command, n),
         }
+    }
+
+    /// Has the machines execute a half line feed, where it is known that it goes on all of them,
+    /// and tells whether it was executed.
+    #[inline(always)]
+    fn feed_half_line(&mut self, known: &Option<FormBounds>) -> bool
+        requires running { AreRunning (machines_of self.old) }
+        requires known { IfSome known.now (λ bounds. FirstForms bounds (machines_of self.old)) }
+        ensures fed { IsTrue result → GoesAlike (Execute Entry.HalfLineFeed)
+            (machines_of self.old) (machines_of self.new)
+            (counts_of self.old) (counts_of self.new) }
+        ensures kept { IsTrue result → FirstKeeps (machines_of self.old) (machines_of self.new) }
+        ensures same { IsFalse result → self.new ≡ self.old }
+    {
+        items_run_on_like_printers();
+        let (FleetMode::Alone | FleetMode::Together) = self.fleet_mode else {
+            return false;
+        };
+        let Some(bounds) = known else {
+            return false;
+        };
+        if !self.first.feed_half_line_on(bounds) {
+            return false;
+        }
+        true
     }
 
     /// Keeps what moves and rectangles take from where the machines stand, if this command may be
@@ -155,7 +224,7 @@ impl<'p, A: Allocator + Copy, P: Allocator> Lockstep<'p, A, P> {
         }
         match self.fleet_mode {
             FleetMode::Alone | FleetMode::Together => self.first.form_bounds(),
-            FleetMode::Apart => None,
+            FleetMode::Defining | FleetMode::Apart => None,
         }
     }
 
@@ -257,7 +326,7 @@ impl<'p, A: Allocator + Copy, P: Allocator> Lockstep<'p, A, P> {
     {
         match self.fleet_mode {
             FleetMode::Alone | FleetMode::Together => self.first.line_measure(),
-            FleetMode::Apart => None,
+            FleetMode::Defining | FleetMode::Apart => None,
         }
     }
 

@@ -1,24 +1,12 @@
 //! The items of a job near a place.
-ghost use Rattle.std.specs.Prelude.{◌≡◌, ◌++◌, IfErr, IfOk, OnOk, refl};
+ghost use Rattle.std.specs.Prelude.{IfErr, IfOk};
 ghost use Rattle.foreign_calls.specs.Answers.{IsStop};
-ghost use Rattle.many_jobs.specs.JobRow.{is_near, near_line, near_rendering};
-ghost use Rattle.pcl_items.specs.Items.{at, view};
-ghost use Rattle.renderings.specs.Carriers.Rests.{faults_matter};
 ghost use Rattle.web_module.specs.Nearby.{IsNearby};
 
 use foreign_calls::{Told, Why};
-use line_words::push_item;
-use named_inputs::{KeptText, kept_error};
-use pcl_items::{Item, LexFault, Place};
-use renderings::{Outcome, Renderer, render_job};
-use std::alloc::{AllocError, Allocator};
-use streams::{Error, Latched, Outlet, write_enough};
-
-/// So many bytes before a place its items are listed.
-const BEFORE: u64 = 40;
-
-/// So many bytes behind it.
-const BEHIND: u64 = 16;
+use many_jobs::read_near;
+use std::alloc::Allocator;
+use streams::Latched;
 
 /// A line for each item near a place.
 pub(crate) fn near<A: Allocator + Copy>(alloc: A, job: &[u8], place: u64) -> Result<Told<A>, Why>
@@ -26,89 +14,8 @@ pub(crate) fn near<A: Allocator + Copy>(alloc: A, job: &[u8], place: u64) -> Res
     ensures stops { IfErr result IsStop }
 {
     let mut source = Latched::new(job);
-    let mut nearby = Nearby {
-        place,
-        spelling: Vec::new(alloc),
-    };
-    let mut text = KeptText::new(alloc);
-    match render_job(alloc, &mut source, &mut nearby, &mut text) {
-        Ok(_) => Ok(Told::of_text(text.into_bytes())),
-        Err(error) => Err(Why::Stopped(kept_error(error))),
+    match read_near(alloc, &mut source, place) {
+        Ok(text) => Ok(Told::of_text(text)),
+        Err(error) => Err(Why::Stopped(error)),
     }
-}
-
-/// Writes the lines of the items near a place.
-#[derive(Drop)]
-struct Nearby<B: Allocator> {
-    place: u64,
-    /// Room for the spelling of an item, so that it is not asked for at each.
-    spelling: Vec<u8, B>,
-}
-
-/// Appends the line of an item, where it is near this place. What it is spelled in is given.
-fn push_near<A: Allocator, B: Allocator>(
-    text: &mut Vec<u8, A>,
-    spelling: &mut Vec<u8, B>,
-    near: u64,
-    place: Place,
-    item: &Item<'_>,
-) -> Result<(), AllocError>
-    ensures { OnOk result (text.new.items ≡ text.old.items
-        ++ near_line near (at place (view item.now))) }
-{
-    if !is_near(near, place) {
-        return Ok(());
-    }
-    push_item(text, spelling, place, item)
-}
-
-/// Whether an item at `x` is near a place.
-fn is_near(place: u64, x: u64) -> bool
-    ensures { result ≡ is_near place x }
-{
-    let first = place.saturating_sub(BEFORE);
-    let before = x.saturating_sub(BEHIND);
-    first <= x && before <= place
-}
-
-impl<B: Allocator> Renderer for Nearby<B> {
-    ghost rendering = { λ nearby. near_rendering nearby.place };
-
-    ghost is_in = { λ _ _. Unit {0} };
-
-    fn item<W: Outlet, A: Allocator>(
-        &mut self,
-        outlet: &mut W,
-        kept: &mut Vec<u8, A>,
-        place: Place,
-        item: &Item<'_>,
-    ) -> Result<Option<Outcome>, Error> {
-        let near = self.place;
-        push_near(kept, &mut self.spelling, near, place, item)?;
-        write_enough(outlet, kept)?;
-        Ok(None)
-    }
-
-    fn end<W: Outlet, A: Allocator>(
-        &mut self,
-        _outlet: &mut W,
-        _kept: &mut Vec<u8, A>,
-        _place: Place,
-    ) -> Result<Outcome, Error> {
-        Ok(Outcome::Done)
-    }
-
-    fn fault<W: Outlet, A: Allocator>(
-        &mut self,
-        _outlet: &mut W,
-        _kept: &mut Vec<u8, A>,
-        fault: LexFault,
-    ) -> Result<Outcome, Error> {
-        Ok(Outcome::of_fault(fault))
-    }
-
-    ghost adds_at_fault = { λ _ place cause. refl };
-
-    ghost rest_matters = { λ nearby over.
-        faults_matter (near_rendering nearby.place) (λ place. refl) over };
 }

@@ -1,7 +1,8 @@
 -- A parameterized command that stands first, or a command with its data.
-use Rattle.std.specs.Prelude.{◌≡◌, ◌≤◌, ◌+◌, ◌-◌, ℕ, List, length, take, drop, Bool, Some}
+use Rattle.std.specs.Prelude.{◌≡◌, ◌⊎◌, ◌≤◌, ◌+◌, ◌-◌, ℕ, List, length, take, drop, Bool, Some}
 use Rattle.pcl_items.specs.declared.pcl.command.Group.{Group}
 use Rattle.pcl_lexer.specs.Lexing.Contexts.{Context}
+use Rattle.pcl_lexer.specs.declared.lexer.first.Context.TheVariants as contexts
 use Rattle.pcl_lexer.specs.declared.pcl.field.EndedField.{EndedField}
 use Rattle.pcl_lexer.specs.declared.pcl.parameterized.ReadCommand.{ReadCommand}
 use Rattle.pcl_lexer.specs.declared.pcl.command_with_data.ReadWithData.{ReadWithData}
@@ -26,6 +27,10 @@ abbrev pub IsEndedBy : ReadCommand → Group → EndedField → Type 0
 IsEndedBy read group field =
     ((bytes : List ℕ) → by_last_byte (Some (amount field.number)) group field.len field.last bytes ≡ first_by read)
     × (read.len ≡ field.len + 1)
+
+-- the command ends its sequence, or a further one of the group is due
+abbrev pub GoesOnIn : Group → ReadCommand → Type 0
+GoesOnIn group read = (read.next ≡ contexts.Pcl) ⊎ (read.next ≡ contexts.Sequence group)
 
 -- what stands first where this command was read with its data, which end its bytes
 abbrev pub first_with_data : ReadWithData → List ℕ → First

@@ -7,7 +7,7 @@ use Rattle.page_machine.specs.Detached.{DetachedState, attached}
 use Rattle.page_machine.specs.MachineState.{MachineState}
 use Rattle.sinks.specs.declared.counts.Counts.{Counts}
 use Rattle.preflight.specs.declared.check_state.CheckState.TheVariants.{Open}
-use Rattle.preflight.specs.declared.lockstep.FleetMode.{FleetMode}
+use Rattle.preflight.specs.declared.fleet_mode.FleetMode.{FleetMode}
 use Rattle.preflight.specs.Carriers.Checking.{printers_of}
 use Rattle.preflight.specs.Carriers.FleetMode.{IsFormed, fleet_of}
 use Rattle.preflight.specs.Carriers.Lockstep.{AreIn, AreRunning, Fleet}

@@ -1,5 +1,5 @@
 use Rattle.std.proofs.Common.{sym, subst, ap, ◌∙◌}
-use Rattle.preflight.specs.declared.lockstep.FleetMode.{FleetMode}
+use Rattle.preflight.specs.declared.fleet_mode.FleetMode.{FleetMode}
 use Rattle.preflight.specs.Carriers.FleetMode.{IsFormed, others_in}
 use Rattle.preflight.proofs.FleetModes.{all_stand, followers_define_none}
 use Rattle.preflight.proofs.lockstep.part.Goals as goal

@@ -6,5 +6,5 @@ use Rattle.web_module.proofs.nearby.near.Goals as goal
 pub returns-in-Ok-clause-near : goal.returns-in-Ok-clause-near
 returns-in-Ok-clause-near g c =
     subst (IsNearby c.args.place c.args.job.now) (sym c.of_text.ensures)
-    (nearby_known c.args.place _ _ _ _ c.args.job.now c.into_bytes.result.items _ c.in-Ok.ensures
-    (ap (λ inner. Some inner.now) c.new-source.ensures.inner) c.new-text.ensures.bytes c.into_bytes.ensures)
+    (nearby_known c.args.place _ _ c.args.job.now _ c.in-Ok.ensures
+    (ap (λ inner. Some inner.now) c.new-source.ensures.inner))

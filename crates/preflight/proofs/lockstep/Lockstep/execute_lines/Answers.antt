@@ -11,8 +11,8 @@ use Rattle.page_machine.specs.TextLines.{PrintsLines}
 use Rattle.sinks.specs.Counts.{counts_after}
 use Rattle.sinks.specs.declared.counts.Counts.{Counts}
 use Rattle.preflight.specs.Carriers.Each.{Each}
-use Rattle.preflight.specs.declared.lockstep.FleetMode.{FleetMode}
-use Rattle.preflight.specs.declared.lockstep.FleetMode.TheVariants.{Apart}
+use Rattle.preflight.specs.declared.fleet_mode.FleetMode.{FleetMode}
+use Rattle.preflight.specs.declared.fleet_mode.FleetMode.TheVariants.{Apart}
 use Rattle.preflight.specs.Carriers.FleetMode.{IsFormed, others_in}
 use Rattle.preflight.specs.Carriers.Lockstep.{AreIn, AreRunning, Fleet}
 use Rattle.preflight.specs.Carriers.TextInStep.{GoOnAll, PrintInStep}
@@ -111,11 +111,12 @@ module _ (g : Over) (c : After-add_marks g) where
   running : AreRunning (c.self.inside.first ∷ others_in c.self.inside.fleet_mode c.self.inside.first before)
   running = subst (λ (f : Fleet). AreRunning f.machines) (sym c.self.view_is) c.requires.running
 
-  in_pcl : AreIn Pcl (c.self.inside.first ∷ others_in c.self.inside.fleet_mode c.self.inside.first before)
-  in_pcl = all_in_pcl look c.in-Some.from text c.self.inside.fleet_mode c.self.inside.first before c.in-Some.ensures.mode go_on
-
   formed : IsFormed c.self.inside.fleet_mode c.self.inside.first before
   formed = c.self.invariant running.0
+
+  in_pcl : AreIn Pcl (c.self.inside.first ∷ others_in c.self.inside.fleet_mode c.self.inside.first before)
+  in_pcl =
+      all_in_pcl look c.in-Some.from text c.self.inside.fleet_mode c.self.inside.first before formed c.in-Some.ensures.mode go_on
 
 pub returns-clause-short : goal.returns-clause-short
 returns-clause-short g c = (are_lines g c).short
@@ -128,7 +129,8 @@ invariant_of-self g c = λ _.
     subst (λ m. IsFormed c.match-self-2.self-inside.fleet_mode m (behind g c)) (sym (first_is g c))
     (subst (λ (f : FleetMode). IsFormed f c.pass_lines.new.self (behind g c)) (sym (fleet_mode_is g c))
     (stay_formed c.items_go_on_like_printers.ensures.items (look g c) c.in-Some.from (text g c) c.self.inside.first c.pass_lines.new.self
-    (goes g c).go (prints g c) c.self.inside.fleet_mode (before g c) (behind g c) (formed g c) (others_are g c)))
+    (goes g c).go (prints g c) c.self.inside.fleet_mode (before g c) (behind g c) (formed g c) c.in-Some.ensures.no_definition
+    (others_are g c)))
 
 pub returns-clause-step : goal.returns-clause-step
 returns-clause-step g c =
@@ -140,7 +142,7 @@ returns-clause-step g c =
     ∙ ap (counts_after (map Marked shapes)) (counts_are g c) in
     let each =
     all_print c.items_go_on_like_printers.ensures.items (look g c) c.in-Some.from (text g c) first c.pass_lines.new.self (goes g c).go
-    (prints g c) fleet_mode (before g c) (behind g c) (formed g c) (others_print g c) (others_are g c) in
+    (prints g c) fleet_mode (before g c) (behind g c) (formed g c) c.in-Some.ensures.no_definition (others_print g c) (others_are g c) in
     subst
     (λ (f : Fleet). PrintInStep (text g c) f.machines
     (c.match-self-2.self-inside.first ∷ others_in c.match-self-2.self-inside.fleet_mode c.match-self-2.self-inside.first (behind g c))

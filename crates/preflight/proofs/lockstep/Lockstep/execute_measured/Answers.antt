@@ -8,7 +8,7 @@ use Rattle.page_machine.specs.MachineState.{MachineState}
 use Rattle.page_machine.specs.TextLines.{MeasuresLines, PrintsLines}
 use Rattle.sinks.specs.Counts.{counts_after}
 use Rattle.sinks.specs.declared.counts.Counts.{Counts}
-use Rattle.preflight.specs.declared.lockstep.FleetMode.TheVariants.{Apart}
+use Rattle.preflight.specs.declared.fleet_mode.FleetMode.TheVariants.{Apart}
 use Rattle.preflight.specs.Carriers.FleetMode.{IsFormed, others_in}
 use Rattle.preflight.specs.Carriers.FormsInStep.{FirstKeeps, FirstMeasures}
 use Rattle.preflight.specs.Carriers.Lockstep.{AreIn, AreRunning, Fleet}
@@ -47,13 +47,13 @@ module _ (g : Over) (c : After-add_marks g) where
   running : AreRunning (c.self.inside.first ∷ others_in c.self.inside.fleet_mode c.self.inside.first others)
   running = subst (λ (f : Fleet). AreRunning f.machines) (sym c.self.view_is) c.requires.running
 
-  in_pcl : AreIn Pcl (c.self.inside.first ∷ others_in c.self.inside.fleet_mode c.self.inside.first others)
-  in_pcl =
-      all_in_pcl look c.in-Some.from text c.self.inside.fleet_mode c.self.inside.first others measures.mode
-      (λ apart. absurd (apart_never apart))
-
   formed : IsFormed c.self.inside.fleet_mode c.self.inside.first others
   formed = c.self.invariant running.0
+
+  in_pcl : AreIn Pcl (c.self.inside.first ∷ others_in c.self.inside.fleet_mode c.self.inside.first others)
+  in_pcl =
+      all_in_pcl look c.in-Some.from text c.self.inside.fleet_mode c.self.inside.first others formed measures.mode
+      (λ apart. absurd (apart_never apart))
 
 -- ---- where nothing is executed
 
@@ -74,7 +74,8 @@ returns-clause-lines g c = lines_of c.self.inside.first.printer (text g c) (look
 pub invariant_of-self : goal.invariant_of-self
 invariant_of-self g c = λ _.
     stay_formed c.items_go_on_like_printers.ensures.items (look g c) c.in-Some.from (text g c) c.self.inside.first c.pass_lines.new.self
-    (goes g c).go (prints g c) c.self.inside.fleet_mode (others g c) (others g c) (formed g c) (λ _. refl)
+    (goes g c).go (prints g c) c.self.inside.fleet_mode (others g c) (others g c) (formed g c)
+    (measures g c).no_definition (λ _. refl)
 
 pub returns-clause-kept : goal.returns-clause-kept
 returns-clause-kept g c =
@@ -92,7 +93,8 @@ returns-clause-step g c =
     c.add_marks.ensures shapes (shape_count (text g c) (look g c) c.in-Some.from ∙ sym (goes g c).glyphs) in
     let each =
     all_print c.items_go_on_like_printers.ensures.items (look g c) c.in-Some.from (text g c) first c.pass_lines.new.self (goes g c).go
-    (prints g c) fleet_mode (others g c) (others g c) (formed g c) (λ apart. absurd (apart_never g c apart)) (λ _. refl) in
+    (prints g c) fleet_mode (others g c) (others g c) (formed g c) (measures g c).no_definition
+    (λ apart. absurd (apart_never g c apart)) (λ _. refl) in
     subst
     (λ (f : Fleet). PrintInStep (text g c) f.machines
     (c.pass_lines.new.self ∷ others_in fleet_mode c.pass_lines.new.self (others g c)) f.counts c.add_marks.new.self)

@@ -24,25 +24,25 @@ returns-then-form-clause-measured g c = λ yes.
 
 -- ---- any other, before which the machines stand where they did
 
-pub step_unknown-requires-clause-running : goal.step_unknown-requires-clause-running
-step_unknown-requires-clause-running g c =
+pub step_copied-requires-clause-running : goal.step_copied-requires-clause-running
+step_copied-requires-clause-running g c =
     subst (λ (f : Fleet). AreRunning f.machines) (sym (c.form.ensures.same c.if-form.false)) c.requires.running
 
-pub step_unknown-requires-clause-admitted : goal.step_unknown-requires-clause-admitted
-step_unknown-requires-clause-admitted g c =
+pub step_copied-requires-clause-admitted : goal.step_copied-requires-clause-admitted
+step_copied-requires-clause-admitted g c =
     subst (λ (f : Fleet). AllAdmit (Execute (simple_view c.args.read.item)) f.machines) (sym (c.form.ensures.same c.if-form.false))
     c.requires.admitted
 
 pub returns-clause-came : goal.returns-clause-came
 returns-clause-came g c =
     subst
-    (λ (f : Fleet). StandsBy c.step_unknown.new.state
-    (λ failed. GoesInStep (Execute (simple_view c.args.read.item)) c.args.read.place f.machines (machines_of c.step_unknown.new.self)
-    f.counts (counts_of c.step_unknown.new.self) failed))
-    (c.form.ensures.same c.if-form.false) c.step_unknown.ensures.came
+    (λ (f : Fleet). StandsBy c.step_copied.new.state
+    (λ failed. GoesInStep (Execute (simple_view c.args.read.item)) c.args.read.place f.machines (machines_of c.step_copied.new.self)
+    f.counts (counts_of c.step_copied.new.self) failed))
+    (c.form.ensures.same c.if-form.false) c.step_copied.ensures.came
 
 pub returns-clause-known : goal.returns-clause-known
-returns-clause-known g c = λ yes. none_kept _ _ c.step_unknown.ensures.no_bounds
+returns-clause-known g c = λ yes. none_kept _ _ c.step_copied.ensures.no_bounds
 
 pub returns-clause-measured : goal.returns-clause-measured
-returns-clause-measured g c = λ yes. none_kept _ _ c.step_unknown.ensures.no_measure
+returns-clause-measured g c = λ yes. none_kept _ _ c.step_copied.ensures.no_measure
