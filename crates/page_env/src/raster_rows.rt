@@ -35,18 +35,22 @@ use std::alloc::Allocator;
 use std::simd::prelude::*;
 use tick_length::Length;
 
+/// How far a pixel goes at each resolution, in the order of `Resolution`, in ticks.
+// A table: LLVM would decide a `match` once more for each product.
+const PIXELS: [u32; 6] = [
+    487_680_000,
+    365_760_000,
+    243_840_000,
+    182_880_000,
+    121_920_000,
+    60_960_000,
+];
+
 /// How far a pixel goes, in ticks.
 fn pixel_of(resolution: Resolution) -> u32
     ensures { result ≡ pixel_of resolution }
 {
-    match resolution {
-        Resolution::Dots75 => 487_680_000,
-        Resolution::Dots100 => 365_760_000,
-        Resolution::Dots150 => 243_840_000,
-        Resolution::Dots200 => 182_880_000,
-        Resolution::Dots300 => 121_920_000,
-        Resolution::Dots600 => 60_960_000,
-    }
+    PIXELS[resolution as usize]
 }
 
 /// The raster behind so many rows, unless they are more than its height has left.
@@ -187,6 +191,12 @@ fn up_to_black(bytes: &[u8]) -> &[u8]
     ensures value { result.now ≡ up_to_black bytes.now }
     ensures short { length result.now ≤ length bytes.now }
 {
+    // Most drivers leave off what is white at the end of a row.
+    if let [.., last] = bytes {
+        if *last != 0 {
+            return bytes;
+        }
+    }
     match blank_behind(bytes) {
         None => &[],
         Some(behind) => &bytes[..bytes.len() - behind],

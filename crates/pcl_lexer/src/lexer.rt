@@ -19,7 +19,7 @@ use crate::lexer::ahead::{
 use crate::lexer::first::{Context, First, Numbers};
 use crate::lexer::lexed::Lexed;
 use crate::pcl::command_with_data::row_in;
-use crate::pcl::parameterized::{any_in, further_in, parameterized_in, short_in};
+use crate::pcl::parameterized::{further_in, parameterized_in, short_in};
 use pcl_items::{Data, Group, Item, LexFault, LineEnd, Motion, Place, SimpleItem};
 use std::alloc::{AllocError, Allocator, Global};
 use std::marker::Model;
@@ -85,6 +85,7 @@ impl<A: Allocator> Lexer<A> {
     ghost use Rattle.pcl_lexer.specs.Lexing.State.{at_start, WantsMore, most_held};
     ghost use Rattle.pcl_lexer.specs.Lexing.Meaning.{HasRead, IsNext, answer_of, answer_of_end};
     ghost use Rattle.pcl_lexer.specs.Lexing.Lending.{Leaves, LeavesAtRow, Steps};
+    ghost use Rattle.pcl_lexer.specs.Lexing.GroupAhead.{group_ahead};
     ghost use Rattle.pcl_lexer.specs.Lexing.Passing.{ahead_of, ReadsLines};
     ghost use Rattle.pcl_lexer.specs.Lexing.Contexts.{Numbered, Even};
     ghost use Rattle.pcl_lexer.specs.declared.frame.Gap.TheVariants.{Straight};
@@ -213,32 +214,17 @@ impl<A: Allocator> Lexer<A> {
         ensures command { IfSome result (λ read. IsNext self.old (answer_of read) self.new) }
         ensures none { IfNone result (self.new ≡ self.old) }
     {
-        if let Some(read) = self.next_in_group() {
-            return Some(read);
-        }
         if let Some(read) = self.next_sequence() {
             return Some(read);
         }
         self.next_command()
     }
 
-    /// The command of one of these groups that stands next, where it is known that one does.
-    #[inline(always)]
-    fn next_in_group(&mut self) -> Option<PlacedItem>
-        ensures command { IfSome result (λ read. IsNext self.old (answer_of read) self.new) }
-        ensures none { IfNone result (self.new ≡ self.old) }
-    {
-        match self.group_ahead()? {
-            Group::Macro => self.next_short(Group::Macro),
-            Group::Position => self.next_any(Group::Position),
-            Group::UnitPosition => self.next_any(Group::UnitPosition),
-            _ => None,
-        }
-    }
-
     /// The group of the command that stands next, if one may.
     #[inline(always)]
-    pub fn group_ahead(&self) -> Option<Group> {
+    pub fn group_ahead(&self) -> Option<Group>
+        ensures { result ≡ group_ahead self.now }
+    {
         match self.context {
             Context::Sequence(group) => return Some(group),
             Context::Pcl => {}
@@ -522,25 +508,6 @@ impl<A: Allocator> Lexer<A> {
         let place = self.place();
         self.at += read.len;
         go_on_with(&mut self.context, begun, read.next);
-        Some(PlacedItem {
-            place,
-            item: SimpleItem::Parameterized(read.command, read.number),
-        })
-    }
-
-    /// The same with any number.
-    #[inline(always)]
-    #[tactic(auto, using(crate::proofs::Lexing::Steps::is_next))]
-    fn next_any(&mut self, group: Group) -> Option<PlacedItem>
-        ensures command { IfSome result (λ read. IsNext self.old (answer_of read) self.new) }
-        ensures none { IfNone result (self.new ≡ self.old) }
-    {
-        let Some(read) = any_in(group, self.context, self.unread()) else {
-            return None;
-        };
-        let place = self.place();
-        self.at += read.len;
-        self.context = read.next;
         Some(PlacedItem {
             place,
             item: SimpleItem::Parameterized(read.command, read.number),

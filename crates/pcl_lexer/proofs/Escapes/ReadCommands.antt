@@ -18,7 +18,7 @@ use Rattle.pcl_items.specs.Escapes.Value.{Amount}
 use Rattle.pcl_lexer.specs.Lexing.FirstView.{context_view}
 use Rattle.pcl_lexer.specs.declared.pcl.command_with_data.ReadWithData.{ReadWithData}
 use Rattle.pcl_lexer.specs.Escapes.ReadCommands.{IsAhead, IsInGroup, IsEndedBy, IsAheadWithData, IsInGroupWithData, first_with_data}
-use Rattle.std.proofs.lemmas.List.{take_all, drop-drop}
+use Rattle.std.proofs.lemmas.List.{take_all, take_rest, drop-drop}
 use Rattle.pcl_lexer.proofs.Escapes.FieldEnds.{command_by}
 use Rattle.pcl_lexer.proofs.Escapes.Heads.{group_read}
 use Rattle.pcl_lexer.proofs.Reading.ReadsTo.{same_between}
@@ -108,6 +108,17 @@ command_behind read g (b0 ∷ b1 ∷ b2 ∷ bytes) three e found h =
           ∙ ap (λ l. behind 3 (command_in g l)) (sym all) ∙ ap (behind 3) h.0,
       omega (arith, h.1, ap length all),
     )
+
+-- the command of a group, behind another of it
+pub command_ahead : (read : ReadCommand) (g : Group) (bytes : List ℕ) →
+    IsInGroup read g (take (length bytes - 0) (drop 0 bytes)) → IsAhead (record read { len = 0 + read.len }) (Sequence g) bytes
+unfolding first_of
+command_ahead read g bytes h =
+    let len : read.len ≡ 0 + read.len = omega arith in
+    let Here : ReadCommand → Type 0 = λ same. IsInGroup same g bytes in
+    let here : IsInGroup read g bytes = subst (λ (l : List ℕ). IsInGroup read g l) (take_rest bytes 0) h in
+    let same : IsInGroup (record read { len = 0 + read.len }) g bytes = subst (λ n. Here (record read { len = n })) len here in
+    (λ whole. same.0, same.1)
 
 -- the data of a command, where the three bytes before its field stand too
 pub with_data_behind : (read : ReadWithData) (bytes : List ℕ) → 2 ≤ length bytes → read.count.bytes ≤ read.len →

@@ -138,7 +138,7 @@ pub fn short_field(bytes: &[u8]) -> Option<EndedField>
 /// How the longest field in front ends, of whatever parts.
 #[inline(always)]
 #[tactic(auto, unfolding(crate::specs::Escapes::FieldEnd::field_end))]
-pub fn any_field_end(bytes: &[u8]) -> FieldEnd
+fn any_field_end(bytes: &[u8]) -> FieldEnd
     ensures end { end_view result ≡ field_end bytes.now }
     ensures within { EndsWithin (length bytes.now) result }
 {

@@ -9,7 +9,7 @@ ghost use Rattle.pcl_lexer.specs.Lexing.FirstView.{context_view};
 ghost use Rattle.pcl_lexer.specs.Escapes.ReadCommands.{GoesOnIn, IsAhead, IsEndedBy, IsInGroup};
 
 use crate::lexer::first::Context;
-use crate::pcl::field::{EndedField, FieldEnd, any_field_end, field_end, short_field};
+use crate::pcl::field::{EndedField, FieldEnd, field_end, short_field};
 use pcl_items::{Command, Group, Number};
 
 /// A command with its number, how many bytes spell it, and what stands before the bytes after them.
@@ -27,22 +27,24 @@ pub struct ReadCommand {
 pub fn parameterized_in(context: Context, bytes: &[u8]) -> Option<ReadCommand>
     ensures { IfSome result (λ read. IsAhead read (context_view context) bytes.now) }
 {
-    match context {
-        Context::Sequence(group) => return command(group, bytes),
-        Context::Pcl => {}
+    let (group, begun) = match context {
+        Context::Sequence(group) => (group, 0),
+        Context::Pcl => {
+            let [b'\x1b', introducer, character, ..] = bytes else {
+                return None;
+            };
+            let group = Group::of(*introducer, *character)?;
+            // Most commands of rows have data, which is known only behind the number.
+            if let Group::RasterData = group {
+                return None;
+            }
+            (group, 3)
+        }
         _ => return None,
-    }
-    let [b'\x1b', introducer, character, rest @ ..] = bytes else {
-        return None;
     };
-    let group = Group::of(*introducer, *character)?;
-    // Most commands of rows have data, which is known only behind the number.
-    if let Group::RasterData = group {
-        return None;
-    }
-    let read = command(group, rest)?;
+    let read = command(group, &bytes[begun..])?;
     Some(ReadCommand {
-        len: 3 + read.len,
+        len: begun + read.len,
         ..read
     })
 }
@@ -79,28 +81,6 @@ pub fn further_in(group: Group, bytes: &[u8]) -> Option<ReadCommand>
     short_command(group, bytes)
 }
 
-/// The same with any number, where a short one was looked for before.
-#[inline(always)]
-#[tactic(auto, unfolding(crate::specs::Reader::first_of))]
-pub fn any_in(group: Group, context: Context, bytes: &[u8]) -> Option<ReadCommand>
-    ensures { IfSome result (λ read. IsAhead read (context_view context) bytes.now) }
-{
-    match context {
-        Context::Sequence(begun) => return any_command(group, begun, bytes),
-        Context::Pcl => {}
-        _ => return None,
-    }
-    let [b'\x1b', introducer, character, rest @ ..] = bytes else {
-        return None;
-    };
-    let begun = Group::of(*introducer, *character)?;
-    let read = any_command(group, begun, rest)?;
-    Some(ReadCommand {
-        len: 3 + read.len,
-        ..read
-    })
-}
-
 /// The command of a group that stands first behind the group's characters, or behind a command of
 /// the group.
 #[inline(always)]
@@ -122,20 +102,6 @@ fn short_command(group: Group, bytes: &[u8]) -> Option<ReadCommand>
 {
     let field = short_field(bytes)?;
     ended_command(group, field)
-}
-
-/// The same with any number.
-#[inline(always)]
-fn any_command(group: Group, begun: Group, bytes: &[u8]) -> Option<ReadCommand>
-    ensures { IfSome result (λ read. IsInGroup read begun bytes.now) }
-{
-    if begun != group {
-        return None;
-    }
-    let FieldEnd::Ended(field) = any_field_end(bytes) else {
-        return None;
-    };
-    ended_command(begun, field)
 }
 
 /// The command of a group that the byte behind a field ends.
