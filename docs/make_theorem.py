@@ -262,8 +262,8 @@ def edits(tree: Tree) -> str:
     came = {edit: said for edit, said in lines_by_edit(tree.text(CAME)) if edit in known}
     counts = [edits_of(crate, known, came) for crate in sorted(crates)]
     proves, refused = (sum(each) for each in list(zip(*counts))[1:])
-    return (f"{head} [edit_outcomes.txt](edit_outcomes.txt) has what came of each without its "
-            f"clause: {proves} prove then, {refused} are refused still.")
+    return (f"{head} [edit_outcomes.txt](edit_outcomes.txt) has what came of {proves + refused} "
+            f"without their clause: {proves} prove then, {refused} are refused still.")
 
 
 MAKERS = {
