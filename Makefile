@@ -1,10 +1,15 @@
-# Builds and installs pclcheck, and packs what is installed; `make help` says what there is. Needs
-# GNU make; `make build` the Rattle toolchain and Python 3.11, `make lib` cc and binutils, `make
-# web` binaryen, `make dist` git, and `make deb` dpkg-dev, too.
+# Tries, builds and installs pclcheck, and packs what is installed; `make help` says what there is.
+# Needs GNU make; `make try`, `make check` and `make build` the Rattle toolchain and Python 3.11,
+# `make lib` cc and binutils, `make web` binaryen, `make dist` git, and `make deb` dpkg-dev, too.
 
 PREFIX = /usr/local
 DESTDIR =
 PROGRAM = crates/pclcheck/out/pclcheck
+# What `make try` checks: a job, and the profile of a printer, a file or a sample as @B.
+JOB = examples/letter.pcl
+PROFILE = @B
+# The parts, or the rows, that `make check` runs alone.
+ONLY =
 # What is proved of the library, the piece of the toolchain's that asks C for memory, and what is
 # made of both.
 PROVED = crates/pclcheck_c/out/libpclcheck_c.a
@@ -71,9 +76,13 @@ ROOT = dist/deb
 
 TRIPLET = $(shell dpkg-architecture -q DEB_HOST_MULTIARCH)
 
-.PHONY: help build lib web pc install uninstall dist deb program committed clean
+.PHONY: help try check build lib web pc install uninstall dist deb program committed clean
 
 help:
+	@echo 'make try        checks one job by a program without proofs: JOB=FILE PROFILE=FILE, or'
+	@echo '                else $(JOB) and $(PROFILE); the first look, in some minutes'
+	@echo 'make check      runs tests and rows by a program without proofs, in some minutes; with'
+	@echo '                ONLY=PART, ONLY=FILE or ONLY=FILE:LINE a part, or rows, of them'
 	@echo 'make build      proves and builds the program and the library, a line for each crate'
 	@echo 'make lib        links libpclcheck.a and libpclcheck.so.0 from the built library'
 	@echo 'make web        builds the module for a page, and packs the page, in $(WEB)/'
@@ -84,6 +93,14 @@ help:
 	@echo 'make dist       packs them as dist/pclcheck-VERSION.tar.gz, with their checksums'
 	@echo 'make deb        packs them as packages for Debian, in dist/'
 	@echo 'make clean      removes dist/ and what make lib and make web made'
+
+# Nothing is proved: `rt try` builds the program for one run, and removes it.
+try:
+	@cd crates/pclcheck && rt try --steps 1 -- check '$(abspath $(JOB))' \
+		'$(if $(filter @%,$(PROFILE)),$(PROFILE),$(abspath $(PROFILE)))'
+
+check:
+	@.ci/check $(ONLY)
 
 build:
 	@.ci/prove --program

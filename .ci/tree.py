@@ -127,6 +127,21 @@ def lanes() -> dict[str, str]:
     return os.environ | {"RT_JOBS": str(most_checks())}
 
 
+def list_crates(place: Path, only: set[str]) -> None:
+    """Writes crates.txt of a copy that has only these crates."""
+    lines = (ROOT / "crates.txt").read_text().splitlines(keepends=True)
+    kept = [line for line in lines if re.match(r"\w*", line)[0] in only | {""}]
+    (place / "crates.txt").write_text("".join(kept))
+
+
+def copy_sources(place: Path, only: set[str]) -> None:
+    """Copies of these crates what `rt try` reads, which is no spec and no proof."""
+    for name in only:
+        shutil.copytree(ROOT / "crates" / name / "src", place / "crates" / name / "src")
+    shutil.copy(ROOT / "HANDLES", place)
+    list_crates(place, only)
+
+
 @contextlib.contextmanager
 def copy(only: set[str] | None = None) -> Iterator[Path]:
     """A copy of the tree without edits, of all crates or `only` some.
@@ -144,7 +159,5 @@ def copy(only: set[str] | None = None) -> Iterator[Path]:
         place = Path(room) / "tree"
         shutil.copytree(ROOT, place, ignore=left_out, symlinks=True)
         if only is not None:
-            lines = (ROOT / "crates.txt").read_text().splitlines(keepends=True)
-            kept = [line for line in lines if re.match(r"\w*", line)[0] in only | {""}]
-            (place / "crates.txt").write_text("".join(kept))
+            list_crates(place, only)
         yield place

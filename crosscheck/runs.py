@@ -1,6 +1,6 @@
 """Runs a program as the row files in `crosscheck/runs/` say, and compares what it answers.
 
-    python3 crosscheck/runs.py PROGRAM [FILE ..]
+    python3 crosscheck/runs.py PROGRAM [FILE[:LINE] ..]     all runs of a FILE, or one
 
 A row file has these lines, with `\\n`, `\\r`, `\\t`, `\\e`, `\\\\` and `\\xHH` for bytes that it
 cannot show, and with `\\.` for none, as behind a blank at the end of a line:
@@ -201,27 +201,30 @@ def read_line(run: Run | None, folder: Path, line: str, row: int) -> Run | None:
     return None
 
 
-def run_file(program: Path, rows: Path) -> tuple[int, list[str]]:
-    """How many runs a row file has, and what differs."""
+def run_file(program: Path, rows: Path, line: int) -> tuple[int, list[str]]:
+    """How many runs a row file has, or 1 where one is asked for by its line, and what differs.
+    All are run, since one may read what another wrote."""
     count, found, run, before = 0, [], None, b""
 
     def end() -> None:
         nonlocal count, run, before
         if run is not None:
-            count, before = count + 1, run.stdout or before
-            told = f"{rows.name}:{run.row}: {b' '.join(run.words)!r}"
-            found.extend(f"{told}: {it}" for it in differences(program, folder, run))
+            before, differing = run.stdout or before, differences(program, folder, run)
+            if line in (0, run.row):
+                told = f"{rows.name}:{run.row}: {b' '.join(run.words)!r}"
+                found.extend(f"{told}: {it}" for it in differing)
+                count += 1
             run = None
 
     with tempfile.TemporaryDirectory(prefix="runs-") as name:
         folder = Path(name) / "examples"
         shutil.copytree(ROOT / "examples", folder)
-        for row, line in enumerate(rows.read_text().splitlines(), 1):
-            kind = line.split(" ")[0]
+        for row, text in enumerate(rows.read_text().splitlines(), 1):
+            kind = text.split(" ")[0]
             if kind in ("$", *FILES):
                 end()
-            if line and not line.startswith("#"):
-                run = read_line(run, folder, line, row) or run
+            if text and not text.startswith("#"):
+                run = read_line(run, folder, text, row) or run
             if kind == "$":
                 run.before = before
         end()
@@ -234,8 +237,9 @@ def main() -> int:
         return 2
     program = Path(sys.argv[1]).resolve()
     count, differing = 0, []
-    for rows in [Path(name) for name in sys.argv[2:]] or sorted(ROWS.glob("*.runs")):
-        runs, found = run_file(program, rows)
+    for word in sys.argv[2:] or sorted(map(str, ROWS.glob("*.runs"))):
+        name, _, line = word.partition(":")
+        runs, found = run_file(program, Path(name), int(line or 0))
         count, differing = count + runs, differing + found
     for line in differing:
         print("differs:", line)

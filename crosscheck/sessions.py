@@ -1,6 +1,6 @@
 """Runs the sessions that the documents show, and some stored runs, with a program.
 
-    python3 crosscheck/sessions.py PROGRAM
+    python3 crosscheck/sessions.py PROGRAM [--without WORD]     but those that have a word
 
 A session is a line that begins with `$ ` and the lines behind it, up to an empty line or the next
 one: what is then written on standard output and standard error. Those of a document run in one copy
@@ -171,15 +171,17 @@ def stored(row: Tuple[str, int, str, str], folder: Path) -> List[str]:
 
 
 def main() -> int:
-    if len(sys.argv) != 2:
+    if len(sys.argv) not in (2, 4) or sys.argv[2:3] not in ([], ["--without"]):
         print(__doc__.strip(), file=sys.stderr)
         return 2
     program = Path(sys.argv[1]).resolve()
+    left_out = re.compile(rf"{SETTING.pattern}|.*{re.escape(sys.argv[3])}"
+                          if sys.argv[3:] else SETTING.pattern)
     differing, count = [], 0
     for document in DOCUMENTS:
         with examples(program) as folder:
             for session in sessions(document):
-                if not SETTING.match(session[0]):
+                if not left_out.match(session[0]):
                     differing += shown(session, folder)
                     count += 1
     with examples(program) as folder:

@@ -1,7 +1,7 @@
 #!/usr/bin/env python3
 """Checks jobs with a program as the row files in `crosscheck/verdicts/` say, and compares verdicts.
 
-    python3 crosscheck/verdicts.py PROGRAM [FILE ..]
+    python3 crosscheck/verdicts.py PROGRAM [FILE[:LINE] ..]     all rows of a FILE, or one
 
 A row file has these lines:
 
@@ -106,12 +106,14 @@ def answer(program: str, folder: Path, fleet: List[str], job: bytes) -> str:
     return (came.stdout + came.stderr).decode() if is_as_told else f"status {came.returncode}\n"
 
 
-def compare_file(task: Tuple[str, Path]) -> Tuple[int, List[str]]:
-    """How many rows a file has, and what differs."""
-    program, path = task
+def compare_file(task: Tuple[str, Path, int]) -> Tuple[int, List[str]]:
+    """How many rows a file has, or 1 where one is asked for by its line, and what differs."""
+    program, path, line = task
     count, found = 0, []
     with tempfile.TemporaryDirectory(prefix="verdicts-") as folder:
         for number, fleet, due, job in rows_of(path):
+            if line and line != number:
+                continue
             came = answer(program, Path(folder), fleet, job)
             count += 1
             if came != due + "\n":
@@ -119,15 +121,22 @@ def compare_file(task: Tuple[str, Path]) -> Tuple[int, List[str]]:
     return count, found or ([] if count else [f"{path.name} has no row"])
 
 
+def file_and_line(word: str) -> Tuple[Path, int]:
+    """The row file of a word, and the line that follows a colon, or 0."""
+    name, _, line = word.partition(":")
+    return Path(name), int(line or 0)
+
+
 def main() -> int:
     if len(sys.argv) < 2:
         print(__doc__.strip(), file=sys.stderr)
         return 2
     program = str(Path(sys.argv[1]).resolve())
-    paths = [Path(name) for name in sys.argv[2:]] or sorted(ROWS.glob("*.rows"))
+    words = sys.argv[2:] or sorted(map(str, ROWS.glob("*.rows")))
     compared, differing = 0, []
     with multiprocessing.Pool(2) as pool:
-        for count, found in pool.imap(compare_file, [(program, path) for path in paths]):
+        tasks = [(program, *file_and_line(word)) for word in words]
+        for count, found in pool.imap(compare_file, tasks):
             compared, differing = compared + count, differing + found
     for line in differing:
         print("differs:", line)
