@@ -26,6 +26,9 @@ MOST_LISTED, MOST_OF_PICTURE = 4_000, 1_000_000
 # What has no end, and what would load something.
 VOID = ("meta", "input", "img")
 LOADING = ("src", "href", "srcset", "data", "action", "background")
+# What hides an element from a reader, and what alone is hidden: the fields, on paper.
+HIDING = re.compile(r"display:\s*none|visibility:\s*(hidden|collapse)|(opacity|font-size):\s*0\b")
+HIDDEN = {"form", "form:not([hidden])"}
 # In a picture by itself there is room for the sentence on a failure.
 HEAD, SENTENCE = re.compile(rb"<svg[^>]*>"), re.compile(rb'<text class="sentence".*</text>\n')
 
@@ -79,7 +82,9 @@ class Document(HTMLParser):
 
     def handle_data(self, data: str) -> None:
         tag = self.inside[-1] if self.inside else ""
-        if tag == "li":
+        if tag == "style":
+            self.wrong += [f"{selector} hides what it is of" for selector in hidden(data)]
+        elif tag == "li":
             self.printers[-1] += data
         elif self.row and tag not in ("details", "summary", "figure") and self.row.texts:
             found, text = self.row.texts[-1]
@@ -87,6 +92,13 @@ class Document(HTMLParser):
 
     def handle_comment(self, data: str) -> None:
         self.wrong.append(f"a comment: {data!r}")
+
+
+def hidden(style: str) -> List[str]:
+    """The selectors by which a style sheet hides what a reader has to see."""
+    rules = re.findall(r"([^{}]+)\{([^{}]*)\}", style)
+    return [selector.strip() for selectors, rule in rules if HIDING.search(rule)
+            for selector in selectors.split(",") if selector.strip() not in HIDDEN]
 
 
 def picture_at(address: str) -> bytes:

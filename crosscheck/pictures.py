@@ -7,8 +7,10 @@ the byte what `drawing.py` draws, with the boxes of characters and without; it h
 page and no other, and is well formed; the page on which the job fails has one thing that fails and
 the sentence of `check --format words`, where that finds the same; and of a page that the job does
 not have standard error alone tells. A document of all pages has the same pictures, but for the
-sentence, each behind the number of its page. Prints each difference and at last `N compared, M
-differ`, where N counts pictures. The exit status is 0 where M is 0, else 1.
+sentence, each behind the number of its page. Before the random jobs a page of each symbol set that
+Python has, too, shows the codes from 33 on: its letters are those of Python's codec. Prints each
+difference and at last `N compared, M differ`, where N counts pictures. The exit status is 0 where M
+is 0, else 1.
 """
 
 import os
@@ -19,14 +21,15 @@ import tempfile
 import xml.etree.ElementTree as xml
 from dataclasses import dataclass, field
 from html import unescape
-from typing import Callable, List, Optional, Tuple
+from typing import Callable, Iterator, List, Optional, Tuple
 
 sys.dont_write_bytecode = True
 
 import jobs                                                        # noqa: E402
-from drawing import draw                                           # noqa: E402
+from drawing import ENCODINGS, draw                                # noqa: E402
 from picture_marks import first_difference                         # noqa: E402
 from printer_profile import read_profile                           # noqa: E402
+from samples import SAMPLE_B, with_lines                           # noqa: E402
 
 SECONDS = 60
 MOST_PAGES = 12                                # of a job are drawn one by one
@@ -187,23 +190,34 @@ def second_drawing(text: bytes, job: bytes, *wanted) -> str:
     return draw(printer, printer.first_panel(), job, *wanted)
 
 
+def cases(count: int, seed: str) -> Iterator[Tuple[str, str, bytes, bytes]]:
+    """The name of each job, the word for its printer, if there is one, the printer's text and the
+    job: first those with all codes that a face may have, as data that is printed, 32 a line."""
+    rows = [bytes(range(first, min(first + 32, 256))) for first in range(33, 256, 32)]
+    codes = b"".join(b"\x1b&p%dX%b\r\n" % (len(row), row) for row in rows) + b"\f"
+    for symbol_set in ENCODINGS:
+        face = f"face 1 {symbol_set} 10 12 0 0 3 720 900 300 33-255"
+        yield f"the codes of {symbol_set}", "", with_lines(SAMPLE_B, face).encode(), codes
+    for number in range(count):
+        case = jobs.random_case(seed, number)
+        yield f"job {number} of {seed}", *case.printers[0], case.job
+
+
 def main() -> int:
     program, count, seed = sys.argv[1], int(sys.argv[2]), sys.argv[3]
     compared, differ = 0, 0
     with tempfile.TemporaryDirectory() as folder:
-        for number in range(count):
-            case = jobs.random_case(seed, number)
-            job, profile = os.path.join(folder, "job"), os.path.join(folder, "profile")
-            word, text = case.printers[0]
-            for path, data in ((job, case.job), (profile, text)):
-                with open(path, "wb") as file:
+        path, profile = os.path.join(folder, "job"), os.path.join(folder, "profile")
+        for name, word, text, job in cases(count, seed):
+            for place, data in ((path, job), (profile, text)):
+                with open(place, "wb") as file:
                     file.write(data)
             pictures, found = differences(
-                lambda *words: run_program(program, job, word or profile, *words),
-                lambda *wanted: second_drawing(text, case.job, *wanted))
+                lambda *words: run_program(program, path, word or profile, *words),
+                lambda *wanted: second_drawing(text, job, *wanted))
             compared, differ = compared + pictures, differ + len(found)
             for line in found:
-                print(f"job {number} of {seed}: {line}")
+                print(f"{name}: {line}")
     print(f"{compared} compared, {differ} differ")
     return 1 if differ else 0
 
