@@ -5,7 +5,9 @@ hot=$work/hot
 export PCLCHECK="$work/bin/pclcheck"
 line_end='
 '
-watch() { exec python3 "$here/hotfolder/hotfolder.py" --quiet 1 --every 0.2 "$@"; }
+watch() {
+    exec python3 "$here/hotfolder/hotfolder.py" --allow-root --quiet 1 --every 0.2 "$@"
+}
 once() {                        # once STATUS [OPTION..]: a run with --once ends so
     due=$1
     shift
@@ -91,7 +93,7 @@ watch "$hot" "$examples/shop.fleet" >"$work/second" 2>&1 &
 second=$!
 started="$started $second"
 say 'hot folder: a second one waits' soon has 'another run has' "$work/second"
-say 'hot folder: a run for cron beside them ends at once' once 0
+say 'hot folder: a run for cron beside them ends at once' once 4
 for number in 1 2 3 4 5 6 7 8; do cp "$examples/letter.pcl" "$hot/letter $number"; done
 all_there() { [ "$(find "$hot/passed" -name 'letter ?' | wc -l)" = 8 ]; }
 say 'hot folder: the watch moves eight jobs' soon all_there
@@ -102,4 +104,6 @@ say 'hot folder: TERM ends it with 0' is_equal "$status" 0
 say 'hot folder: the second goes on where the first ended' soon is_moved passed last 'prints'
 end "$second"
 say 'hot folder: TERM ends it with 0' is_equal "$status" 0
-unset PCLCHECK
+
+# shellcheck source=/dev/null
+. "$here/hotfolder/try_attacks.sh"
