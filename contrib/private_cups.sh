@@ -28,7 +28,7 @@ TempDir $cups/tmp
 AccessLog $cups/log/access
 ErrorLog $cups/log/error
 PageLog $cups/log/page
-Printcap
+Printcap $cups/printcap
 END
     for line; do echo "$line" >>"$cups/etc/cups-files.conf"; done
     port=$(free_port)

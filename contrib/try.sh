@@ -1,8 +1,8 @@
 #!/bin/sh
 # Tries what is in this folder for real: a private cupsd, a printer application, a hot folder and two
-# sshd, on loopback, and the module for Python.
+# sshd, on loopback, the module for Python, and the callers in C with damaged jobs.
 #
-#   contrib/try.sh [hotfolder] [parallel] [cups] [pappl] [python]        without a word: all
+#   contrib/try.sh [hotfolder] [parallel] [cups] [pappl] [python] [c]    without a word: all
 #
 # Run it as root (only so does cupsd give its backends to another user). Needs the built program,
 # crates/pclcheck/out/pclcheck or PCLCHECK, the library that `make lib` made, and of Debian 12 the
@@ -11,7 +11,7 @@
 #   cups cups-client cups-ipp-utils libpappl-dev pkg-config gcc openssh-server openssh-client
 #   parallel python3 procps
 #
-# It takes about a minute. Everything is kept in a folder that is removed at the end, and each
+# It takes some minutes. Everything is kept in a folder that is removed at the end, and each
 # process that was started is ended; the cupsd and the sshd of the system are not touched. The last
 # line is 'N passed, M failed', and the exit status is 0 where M is 0.
 # shellcheck disable=SC2034  # the parts use these variables
@@ -47,7 +47,10 @@ needs() {                       # needs PART: what it is tried with
         ;;
     esac
     case $1 in
-    cups | pappl | python) need "$built/libpclcheck.so.0" 'make build, and then make lib' ;;
+    c) need /usr/bin/cc "Debian's package gcc" ;;
+    esac
+    case $1 in
+    c | cups | pappl | python) need "$built/libpclcheck.so.0" 'make build, and then make lib' ;;
     esac
 }
 if [ "$(id -u)" != 0 ]; then
@@ -129,8 +132,10 @@ build_caller() {                # build_caller NAME SOURCE [WORDS..]: a caller o
     caller=$work/bin/$1
     source=$2
     shift 2
-    cc -std=c11 -Wall -Wextra -Werror -O2 -I "$here/../include" -I "$here/c" "$source" \
-        "$here/c/gate.c" "$built/libpclcheck.a" "$@" -o "$caller"
+    # shellcheck disable=SC2086  # CFLAGS are words
+    cc -std=c11 -Wall -Wextra -Werror -O2 -D_FORTIFY_SOURCE=2 -fstack-protector-strong ${CFLAGS-} \
+        -I "$here/../include" -I "$here/c" "$source" "$here/c/gate.c" "$built/libpclcheck.a" "$@" \
+        -o "$caller"
 }
 is_gone() { [ ! -e "/proc/$1" ]; }
 free_port() {
@@ -146,10 +151,10 @@ is_open() {                     # is_open PORT: something listens there
 
 # shellcheck source=/dev/null
 . "$here/private_cups.sh"
-[ $# -gt 0 ] || set -- hotfolder parallel cups pappl python
+[ $# -gt 0 ] || set -- hotfolder parallel cups pappl python c
 for part; do
     case $part in
-    cups | hotfolder | parallel | pappl | python) ;;
+    c | cups | hotfolder | parallel | pappl | python) ;;
     *)
         echo "try.sh: there is no part $part" >&2
         exit 2

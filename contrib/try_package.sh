@@ -117,7 +117,8 @@ else
 fi
 for package in $packages; do cp "dist/${package}_$made_as" "$system/root/$package.deb"; done
 examples=/usr/share/doc/pclcheck/examples
-build='cc -Wall -Werror /usr/share/doc/libpclcheck-dev/examples/check.c -o /root/check'
+build='cc -O2 -D_FORTIFY_SOURCE=2 -fstack-protector-strong -Wall -Werror -o /root/check'
+build="$build /usr/share/doc/libpclcheck-dev/examples/check.c"
 files "$folder/before"
 
 for package in $packages; do

@@ -1,6 +1,7 @@
 /* Checks a job for printers by the library of pclcheck.
  *
- *     cc check.c $(pkg-config --cflags --libs pclcheck) -o check
+ *     cc -O2 -D_FORTIFY_SOURCE=2 -fstack-protector-strong check.c \
+ *         $(pkg-config --cflags --libs pclcheck) -o check
  *     ./check JOB PROFILE..
  *
  * The sentence on the job goes to standard output. The status is 0 where it passes, 1 where it
@@ -11,49 +12,78 @@
 #include <stdlib.h>
 #include <string.h>
 
-enum { ENOUGH = 4096 };
+/* A profile has at most so many bytes: the library refuses one more. */
+enum { MOST_PROFILE = 65536, PIECE = 65536, ENOUGH = 4096 };
+enum { PASSES, FAILS, NOT_CHECKED };
 
-/* Reads a file, or gives NULL; the caller frees the bytes. */
-static uint8_t *read_file(const char *path, size_t *length)
+/* Gives a path as it is shown, which the caller frees: what a terminal would obey becomes `?`. */
+static char *new_name(const char *path)
 {
-    FILE *file = fopen(path, "rb");
-    uint8_t *bytes = NULL;
-    long end;
+    char *name = malloc(strlen(path) + 1);
 
-    if (file == NULL)
-        return NULL;
-    if (fseek(file, 0, SEEK_END) == 0 && (end = ftell(file)) >= 0
-        && (bytes = malloc((size_t)end + 1)) != NULL) {
-        rewind(file);
-        *length = fread(bytes, 1, (size_t)end, file);
-    }
-    fclose(file);
-    return bytes;
+    for (size_t at = 0; name != NULL && at <= strlen(path); at++)
+        name[at] = path[at] == '\0' || (path[at] >= ' ' && path[at] <= '~') ? path[at] : '?';
+    return name;
+}
+
+static int complain(const char *name, const char *why)
+{
+    fprintf(stderr, "%s: %s\n", name, why);
+    return 0;
+}
+
+static int complain_of(const char *name, uint32_t answer)
+{
+    fprintf(stderr, "%s: the library answers %u\n", name, answer);
+    return 0;
 }
 
 /* Adds the printer of a profile, or tells why it cannot. */
-static int add_printer(struct pclcheck_fleet *fleet, const char *path)
+static int add_text(struct pclcheck_fleet *fleet, const char *name, FILE *file)
 {
+    static uint8_t text[MOST_PROFILE + 1];
     struct pclcheck_refusal refusal;
-    size_t length;
-    uint8_t *profile = read_file(path, &length);
+    size_t length = fread(text, 1, sizeof text, file);
     uint32_t answer;
 
-    if (profile == NULL) {
-        perror(path);
-        return 0;
-    }
-    answer = pclcheck_fleet_add(fleet, profile, length, &refusal);
-    free(profile);
+    if (ferror(file))
+        return complain(name, "it could not be read");
+    answer = pclcheck_fleet_add(fleet, text, length, &refusal);
     if (answer == PCLCHECK_REFUSED)
-        fprintf(stderr, "%s: line %llu is wrong\n", path, (unsigned long long)refusal.line);
+        fprintf(stderr, "%s: line %llu is wrong\n", name, (unsigned long long)refusal.line);
     else if (answer != PCLCHECK_DONE)
-        fprintf(stderr, "%s: the library answers %u\n", path, answer);
+        complain_of(name, answer);
     return answer == PCLCHECK_DONE;
 }
 
+static int add_printer(struct pclcheck_fleet *fleet, const char *path)
+{
+    char *name = new_name(path);
+    FILE *file = name == NULL ? NULL : fopen(path, "rb");
+    int is_added = file == NULL ? complain(name == NULL ? "?" : name, "it could not be opened")
+                                : add_text(fleet, name, file);
+
+    if (file != NULL)
+        fclose(file);
+    free(name);
+    return is_added;
+}
+
+/* Feeds a job to its end, or until its verdict is certain. False where a byte was not read. */
+static int feed(struct pclcheck_fleet *fleet, struct pclcheck_session *session, FILE *job)
+{
+    static uint8_t piece[PIECE];
+    uint32_t answer = PCLCHECK_DONE;
+
+    while (answer == PCLCHECK_DONE && !feof(job) && !ferror(job)) {
+        size_t length = fread(piece, 1, sizeof piece, job);
+        answer = pclcheck_session_feed(fleet, session, piece, length);
+    }
+    return !ferror(job);
+}
+
 /* Tells of a job; where the sentence is too long for the room, it is asked for once more. */
-static int tell(struct pclcheck_fleet *fleet, const char *path, const uint8_t *job, size_t length)
+static int tell(struct pclcheck_fleet *fleet, struct pclcheck_session *session, const char *name)
 {
     struct pclcheck_verdict verdict;
     size_t room = ENOUGH, needed;
@@ -61,43 +91,74 @@ static int tell(struct pclcheck_fleet *fleet, const char *path, const uint8_t *j
     uint32_t answer = PCLCHECK_MEMORY;
 
     while (text != NULL) {
-        answer = pclcheck_tell(fleet, 0, (const uint8_t *)path, strlen(path), job, length,
-                               &verdict, text, room, &needed);
+        answer = pclcheck_session_tell(fleet, session, (const uint8_t *)name, strlen(name),
+                                       &verdict, text, room, &needed);
         if (answer != PCLCHECK_ROOM)
             break;
         room = needed;
         free(text);
         text = malloc(room);
     }
-    if (answer == PCLCHECK_DONE)
-        fwrite(text, 1, needed, stdout);
-    else
-        fprintf(stderr, "%s: the library answers %u\n", path, answer);
+    if (text == NULL || answer != PCLCHECK_DONE) {
+        complain_of(name, text == NULL ? PCLCHECK_MEMORY : answer);
+        free(text);
+        return NOT_CHECKED;
+    }
+    fwrite(text, 1, needed, stdout);
     free(text);
-    return answer != PCLCHECK_DONE ? 2 : verdict.number == 0 ? 0 : 1;
+    return verdict.number == 0 ? PASSES : FAILS;
+}
+
+/* Checks an open job. What was not read to its end without an error has no verdict. */
+static int check(struct pclcheck_fleet *fleet, const char *name, FILE *job)
+{
+    struct pclcheck_session session = {0};
+    uint32_t answer = pclcheck_session_new(fleet, 0, &session);
+    int status = NOT_CHECKED;
+
+    if (answer != PCLCHECK_DONE) {
+        complain_of(name, answer);
+        return status;
+    }
+    if (feed(fleet, &session, job))
+        status = tell(fleet, &session, name);
+    else
+        complain(name, "it could not be read");
+    pclcheck_session_free(&session);
+    return status;
+}
+
+static int check_path(struct pclcheck_fleet *fleet, const char *path)
+{
+    char *name = new_name(path);
+    FILE *job = name == NULL ? NULL : fopen(path, "rb");
+    int status = NOT_CHECKED;
+
+    if (job == NULL) {
+        complain(name == NULL ? "?" : name, "it could not be opened");
+    } else {
+        status = check(fleet, name, job);
+        fclose(job);
+    }
+    free(name);
+    return status;
 }
 
 int main(int argc, char *argv[])
 {
     struct pclcheck_fleet fleet = {0};
-    size_t length;
-    uint8_t *job;
-    int status = 2, is_fleet = 1;
+    int status = NOT_CHECKED, is_fleet = 1;
 
     if (argc < 3) {
-        fprintf(stderr, "Usage: %s JOB PROFILE..\n", argv[0]);
+        fprintf(stderr, "Usage: %s JOB PROFILE..\n", argc > 0 ? argv[0] : "check");
         return status;
     }
     if (pclcheck_fleet_new(&fleet) != PCLCHECK_DONE)
         return status;
     for (int at = 2; at < argc; at++)
         is_fleet = is_fleet && add_printer(&fleet, argv[at]);
-    job = read_file(argv[1], &length);
-    if (job == NULL)
-        perror(argv[1]);
-    else if (is_fleet)
-        status = tell(&fleet, argv[1], job, length);
-    free(job);
+    if (is_fleet)
+        status = check_path(&fleet, argv[1]);
     pclcheck_fleet_free(&fleet);
-    return status;
+    return fflush(stdout) == 0 && !ferror(stdout) ? status : NOT_CHECKED;
 }

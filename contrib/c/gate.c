@@ -8,70 +8,103 @@
 #include <stdio.h>
 #include <stdlib.h>
 #include <string.h>
-#include <sys/stat.h>
 #include <unistd.h>
 
-enum { MOST_PATH = 4096, MOST_SENTENCE = 4096, FIRST_ROOM = 65536, PIECE = 65536 };
+enum { MOST_PATH = 4096, MOST_SENTENCE = 4096, PIECE = 65536 };
+/* The program allows a fleet and a profile so many bytes. */
+enum { MOST_TEXT = 65536 };
+/* An overlay of 2,000 items on each of 10,000 pages; it takes some seconds for each printer. */
+enum { MOST_ITEMS = 20000000 };
 /* The cause Range of a profile that is refused. */
 enum { RANGE = 4 };
 
 /* The name that a sentence begins with, which is cut off; a job has none here. */
 static const char NAME[] = "-";
 
-struct bytes {
-    unsigned char *bytes;
+/* ---- the fleet */
+
+/* A fleet or a profile, up to the first byte that is too many, with a zero byte after it. */
+struct text {
     size_t length;
+    unsigned char bytes[MOST_TEXT + 2];
 };
 
-/* Reads what is left of an open file, or says why it cannot; the bytes are freed by free(). */
-static bool read_all(int file, struct bytes *read_so_far, char *cause, size_t room)
+static ssize_t read_some(int file, unsigned char *bytes, size_t room)
 {
-    size_t space = FIRST_ROOM;
+    ssize_t got;
 
-    read_so_far->length = 0;
-    read_so_far->bytes = malloc(space);
-    while (read_so_far->bytes != NULL) {
-        ssize_t got = read(file, read_so_far->bytes + read_so_far->length,
-                           space - read_so_far->length);
-        if (got == 0)
-            return true;
-        if (got < 0 && errno == EINTR)
-            continue;
-        if (got < 0) {
-            snprintf(cause, room, "%s", strerror(errno));
-            free(read_so_far->bytes);
-            return false;
-        }
-        read_so_far->length += (size_t)got;
-        if (read_so_far->length == space) {
-            unsigned char *grown = space <= SIZE_MAX / 2 ? realloc(read_so_far->bytes, space * 2)
-                                                         : NULL;
-            if (grown == NULL)
-                free(read_so_far->bytes);
-            read_so_far->bytes = grown;
-            space *= 2;
-        }
+    do
+        got = read(file, bytes, room);
+    while (got < 0 && errno == EINTR);
+    return got;
+}
+
+static bool read_text(int file, struct text *text)
+{
+    const size_t most = MOST_TEXT + 1;
+    ssize_t got = 1;
+
+    text->length = 0;
+    while (got > 0 && text->length < most) {
+        got = read_some(file, text->bytes + text->length, most - text->length);
+        if (got > 0)
+            text->length += (size_t)got;
     }
-    snprintf(cause, room, "memory ran out");
-    return false;
+    text->bytes[text->length] = '\0';
+    return got >= 0;
 }
 
-static bool read_path(const char *path, struct bytes *text, char *cause, size_t room)
+/* Gives the text of a file, which the caller frees; NULL where it cannot, and `cause` says why. */
+static struct text *new_text(const char *path, char *cause, size_t room)
 {
-    char why[128];
-    int file = open(path, O_RDONLY | O_CLOEXEC);
-    bool is_read = file >= 0 && read_all(file, text, why, sizeof why);
+    struct text *text = malloc(sizeof *text);
+    int file = text == NULL ? -1 : open(path, O_RDONLY | O_CLOEXEC);
+    bool is_read = file >= 0 && read_text(file, text);
 
-    if (file < 0)
-        snprintf(why, sizeof why, "%s", strerror(errno));
-    else
+    if (!is_read) {
+        snprintf(cause, room, "%s: %s", path, text == NULL ? "memory ran out" : strerror(errno));
+        free(text);
+    }
+    if (file >= 0)
         close(file);
-    if (!is_read)
-        snprintf(cause, room, "%s: %s", path, why);
-    return is_read;
+    return is_read ? text : NULL;
 }
 
-/* What is wrong in a line, or in the text as a whole, in the words of the program. */
+/* The length of the character of UTF-8 that a text begins with, or 0. A zero byte is none. */
+static size_t first_character(const unsigned char *text, size_t left)
+{
+    static const uint32_t LEAST[] = {0, 1, 0x80, 0x800, 0x10000};
+    size_t length = text[0] < 0x80 ? 1 : text[0] < 0xc0 ? 0 : text[0] < 0xe0 ? 2
+                  : text[0] < 0xf0 ? 3 : text[0] < 0xf8 ? 4 : 0;
+    uint32_t value = length > 1 ? text[0] & 0x7fu >> length : text[0];
+
+    if (length > left)
+        return 0;
+    for (size_t at = 1; at < length; at++) {
+        if ((text[at] & 0xc0) != 0x80)
+            return 0;
+        value = value << 6 | (text[at] & 0x3f);
+    }
+    return value < LEAST[length] || value > 0x10ffff || value >> 11 == 0x1b ? 0 : length;
+}
+
+/* What is wrong in the text of a fleet as a whole, in the words of the program; else NULL. */
+static const char *fleet_fault(const struct text *text)
+{
+    size_t at = 0, length = 1;
+
+    if (text->length > MOST_TEXT)
+        return "more than 65536 bytes";
+    while (at < text->length && length > 0) {
+        length = first_character(text->bytes + at, text->length - at);
+        at += length;
+    }
+    if (length > 0)
+        return NULL;
+    return text->bytes[at] == '\0' ? "a zero byte" : "not UTF-8 text";
+}
+
+/* What is wrong in a line of a profile, or in the text as a whole, in the words of the program. */
 static const char *cause_of(const struct pclcheck_refusal *refusal)
 {
     static const char *const CAUSES[] = {
@@ -90,14 +123,14 @@ static const char *cause_of(const struct pclcheck_refusal *refusal)
 /* Adds the printer of one profile. */
 static bool add_printer(struct pclcheck_fleet *fleet, const char *path, char *cause, size_t room)
 {
-    struct bytes text;
-    struct pclcheck_refusal refusal;
+    struct pclcheck_refusal refusal = {0};
+    struct text *text = new_text(path, cause, room);
     uint32_t answer;
 
-    if (!read_path(path, &text, cause, room))
+    if (text == NULL)
         return false;
-    answer = pclcheck_fleet_add(fleet, text.bytes, text.length, &refusal);
-    free(text.bytes);
+    answer = pclcheck_fleet_add(fleet, text->bytes, text->length, &refusal);
+    free(text);
     if (answer == PCLCHECK_REFUSED)
         snprintf(cause, room, "%s: line %llu: %s", path, (unsigned long long)refusal.line,
                  cause_of(&refusal));
@@ -124,51 +157,169 @@ static char *next_path(char **rest)
     return NULL;
 }
 
+/* Puts FOLDER/NAME, or a name that is a path from the root; false where it has no room. */
+static bool put_path(const char *folder, const char *name, const char *end, char *path)
+{
+    bool is_rooted = name[0] == '/';
+    int length = snprintf(path, MOST_PATH, "%s%s%s%s", is_rooted ? "" : folder,
+                          is_rooted ? "" : "/", name, end);
+
+    return length >= 0 && length < MOST_PATH;
+}
+
 static bool add_printers(struct pclcheck_fleet *fleet, const char *folder, char *lines, char *cause,
                          size_t room)
 {
     char path[MOST_PATH];
     const char *word;
+    bool has_any = false;
 
     while ((word = next_path(&lines)) != NULL) {
-        int length = word[0] == '/' ? snprintf(path, sizeof path, "%s", word)
-                                    : snprintf(path, sizeof path, "%s/%s", folder, word);
-        if (length < 0 || (size_t)length >= sizeof path) {
+        if (!put_path(folder, word, "", path)) {
             snprintf(cause, room, "the path of a profile is too long");
             return false;
         }
         if (!add_printer(fleet, path, cause, room))
             return false;
+        has_any = true;
     }
-    return true;
+    if (!has_any)
+        snprintf(cause, room, "the fleet names no printer");
+    return has_any;
+}
+
+/* Makes the fleet of a text, whose path messages begin with. */
+static bool make_fleet(struct pclcheck_fleet *fleet, const char *folder, const char *path,
+                       struct text *text, char *cause, size_t room)
+{
+    const char *fault = fleet_fault(text);
+
+    if (fault == NULL && pclcheck_fleet_new(fleet) != PCLCHECK_DONE)
+        fault = "memory ran out";
+    if (fault != NULL) {
+        snprintf(cause, room, "%s: %s", path, fault);
+        return false;
+    }
+    pclcheck_fleet_limit(fleet, MOST_ITEMS);
+    if (add_printers(fleet, folder, (char *)text->bytes, cause, room))
+        return true;
+    pclcheck_fleet_free(fleet);
+    return false;
 }
 
 bool gate_open(const char *queue, struct pclcheck_fleet *fleet, char *cause, size_t room)
 {
     const char *folder = getenv("PCLCHECK_FLEETS");
     char path[MOST_PATH];
-    struct bytes text;
-    char *lines;
+    struct text *text;
     bool is_open;
 
+    memset(fleet, 0, sizeof *fleet);
     if (folder == NULL)
         folder = "/etc/pclcheck";
-    snprintf(path, sizeof path, "%s/%s.fleet", folder, queue);
-    if (!read_path(path, &text, cause, room))
+    if (queue[0] == '.' || strchr(queue, '/') != NULL || !put_path(folder, queue, ".fleet", path)) {
+        snprintf(cause, room, "the name of the queue names no fleet");
         return false;
-    lines = strndup((const char *)text.bytes, text.length);
-    free(text.bytes);
-    memset(fleet, 0, sizeof *fleet);
-    is_open = lines != NULL && pclcheck_fleet_new(fleet) == PCLCHECK_DONE;
-    if (!is_open) {
-        snprintf(cause, room, "%s: memory ran out", path);
-    } else if (!add_printers(fleet, folder, lines, cause, room)) {
-        pclcheck_fleet_free(fleet);
-        is_open = false;
     }
-    free(lines);
+    text = new_text(path, cause, room);
+    if (text == NULL)
+        return false;
+    is_open = make_fleet(fleet, folder, path, text, cause, room);
+    free(text);
     return is_open;
 }
+
+/* ---- other languages */
+
+/* How a job that a printer may take for another language begins: at its first byte, after a
+   universal exit or a reset, and after blanks and lines of the job language there. */
+static const char *const LANGUAGES[] = {"%!", "%PDF-", ") HP-PCL XL", "( HP-PCL XL", "' HP-PCL XL"};
+static const char JOB_LINE[] = "@PJL";
+static const char EXIT[] = "\033%-12345X", RESET[] = "\033E";
+static const char BLANKS[] = "\t\n\f\r \004";
+static const char OTHER_LANGUAGE[] =
+    "this job is PostScript, PDF or PCL XL, or turns to one of them, which pclcheck does not check";
+
+/* Where a job is between two of its bytes. Of a line of the job language with an exit or a reset in
+   it both is possible: that it goes on, and that another start is there. */
+struct languages {
+    bool is_past_start, is_in_line;
+    char kept[16];                      /* the bytes of a start so far, as a text */
+    char escape[16];                    /* those of an exit or a reset */
+};
+
+static bool is_front(const char *text, const char *whole)
+{
+    return strncmp(text, whole, strlen(text)) == 0;
+}
+
+/* Appends a byte, which may be the next one of a text; a zero byte is none of any. */
+static void append(char *text, unsigned char byte)
+{
+    size_t length = strlen(text);
+
+    text[length] = (char)byte;
+    text[length + 1] = '\0';
+}
+
+/* Follows a byte where a language may begin; says whether one has begun. */
+static bool begins(struct languages *languages, unsigned char byte)
+{
+    char *kept = languages->kept;
+    bool is_possible = false;
+
+    if (kept[0] == '\0' && (byte == '\0' || strchr(BLANKS, byte) != NULL))
+        return false;
+    append(kept, byte);
+    for (size_t at = 0; at < sizeof LANGUAGES / sizeof *LANGUAGES; at++) {
+        if (strcmp(kept, LANGUAGES[at]) == 0)
+            return true;
+        is_possible = is_possible || is_front(kept, LANGUAGES[at]);
+    }
+    if (strcmp(kept, JOB_LINE) == 0)
+        languages->is_in_line = languages->is_past_start = true;
+    else if (byte == '\0' || (!is_possible && !is_front(kept, JOB_LINE)))
+        languages->is_past_start = true;
+    return false;
+}
+
+/* Whether a byte ends an exit or a reset. */
+static bool ends_escape(struct languages *languages, unsigned char byte)
+{
+    char *escape = languages->escape;
+
+    if (byte == '\033')
+        escape[0] = '\0';
+    else if (escape[0] == '\0')
+        return false;
+    append(escape, byte);
+    if (strcmp(escape, EXIT) != 0 && strcmp(escape, RESET) != 0) {
+        if (byte == '\0' || !(is_front(escape, EXIT) || is_front(escape, RESET)))
+            escape[0] = '\0';
+        return false;
+    }
+    escape[0] = '\0';
+    return true;
+}
+
+/* Whether another language begins in the next bytes of a job. */
+static bool has_language(struct languages *languages, const unsigned char *bytes, size_t length)
+{
+    for (size_t at = 0; at < length; at++) {
+        bool ends_line = languages->is_in_line && bytes[at] == '\n';
+
+        if (ends_escape(languages, bytes[at]) || ends_line) {
+            languages->is_in_line = languages->is_in_line && !ends_line;
+            languages->is_past_start = false;
+            languages->kept[0] = '\0';
+        } else if (!languages->is_past_start && begins(languages, bytes[at])) {
+            return true;
+        }
+    }
+    return false;
+}
+
+/* ---- what is told */
 
 /* The sentence without the name before it, or that there is none. */
 static void put_sentence(const char *text, size_t length, char *sentence, size_t room)
@@ -202,28 +353,14 @@ static int new_spool(void)
     char path[MOST_PATH];
     int file;
 
-    snprintf(path, sizeof path, "%s/pclcheck.XXXXXX", folder != NULL ? folder : "/tmp");
+    if (!put_path(folder != NULL ? folder : "/tmp", "pclcheck.XXXXXX", "", path)) {
+        errno = ENAMETOOLONG;
+        return -1;
+    }
     file = mkostemp(path, O_CLOEXEC);
     if (file >= 0)
         unlink(path);
     return file;
-}
-
-static int spool_of(int job)
-{
-    struct stat told;
-
-    return fstat(job, &told) == 0 && S_ISREG(told.st_mode) ? dup(job) : new_spool();
-}
-
-static ssize_t read_piece(int file, unsigned char *piece)
-{
-    ssize_t got;
-
-    do
-        got = read(file, piece, PIECE);
-    while (got < 0 && errno == EINTR);
-    return got;
 }
 
 static bool write_piece(int file, const unsigned char *piece, size_t length)
@@ -243,45 +380,67 @@ static bool write_piece(int file, const unsigned char *piece, size_t length)
 /* A check under way, and what its last call answered. */
 struct check {
     struct pclcheck_fleet *fleet;
+    const struct gate_job *job;
+    int spool;
     struct pclcheck_session session;
     uint32_t answer;
+    bool is_any_language;
+    struct languages languages;
 };
 
-/* Feeds what is left of a file, until the check wants no more; what comes by a pipe is kept. */
-static bool feed(struct check *check, int file, int spool, bool is_kept)
+/* Feeds the next piece; what it says is told in place of a verdict. */
+static const char *feed_piece(struct check *check, const unsigned char *piece, size_t length)
+{
+    const struct gate_job *job = check->job;
+
+    if (job->is_cancelled != NULL && job->is_cancelled(job->job))
+        return "no verdict on this job: it was cancelled";
+    if (!check->is_any_language && has_language(&check->languages, piece, length))
+        return OTHER_LANGUAGE;
+    check->answer = pclcheck_session_feed(check->fleet, &check->session, piece, length);
+    return NULL;
+}
+
+/* Feeds what is left of a file, until the check wants no more. Of the job itself what is read is
+   kept, and these bytes alone are handed on. */
+static const char *feed(struct check *check, int file)
 {
     unsigned char piece[PIECE];
-    ssize_t got;
+    const char *trouble = NULL;
+    ssize_t got = 1;
 
-    while (check->answer == PCLCHECK_DONE && (got = read_piece(file, piece)) != 0) {
-        if (got < 0 || (!is_kept && !write_piece(spool, piece, (size_t)got)))
-            return false;
-        check->answer = pclcheck_session_feed(check->fleet, &check->session, piece, (size_t)got);
+    while (trouble == NULL && got > 0 && check->answer == PCLCHECK_DONE) {
+        got = read_some(file, piece, sizeof piece);
+        if (got < 0)
+            trouble = "no verdict on this job: it could not be read";
+        else if (file != check->spool && !write_piece(check->spool, piece, (size_t)got))
+            trouble = "no verdict on this job: it could not be kept";
+        else if (got > 0)
+            trouble = feed_piece(check, piece, (size_t)got);
     }
-    return true;
+    return trouble;
 }
 
-/* Feeds the job, and then its further copies from where the first is kept. A file is fed from its
-   start, as it is handed on. */
-static bool feed_copies(struct check *check, int job, unsigned copies, int spool)
+/* Feeds the job, and then its further copies from what is kept of the first. */
+static const char *feed_copies(struct check *check)
 {
-    struct stat told;
-    bool is_kept = fstat(job, &told) == 0 && S_ISREG(told.st_mode);
+    const char *trouble = feed(check, check->job->file);
 
-    if ((is_kept && lseek(job, 0, SEEK_SET) != 0) || !feed(check, job, spool, is_kept))
-        return false;
-    for (unsigned at = 1; at < copies && check->answer == PCLCHECK_DONE; at++) {
-        if (lseek(spool, 0, SEEK_SET) != 0 || !feed(check, spool, spool, true))
-            return false;
+    for (unsigned at = 1; at < check->job->copies && check->answer == PCLCHECK_DONE; at++) {
+        if (trouble == NULL && lseek(check->spool, 0, SEEK_SET) != 0)
+            trouble = "no verdict on this job: it could not be read";
+        if (trouble == NULL)
+            trouble = feed(check, check->spool);
     }
-    return true;
+    return trouble;
 }
 
+/* Only what was fed to its end, and of which the library answers a verdict of number 0, passes. */
 static enum gate_answer tell(struct check *check, char *sentence, size_t room)
 {
-    struct pclcheck_verdict verdict;
+    struct pclcheck_verdict verdict = {.number = UINT32_MAX};
     uint8_t text[MOST_SENTENCE];
-    size_t needed;
+    size_t needed = 0;
     uint32_t answer = pclcheck_session_tell(check->fleet, &check->session, (const uint8_t *)NAME,
                                             sizeof NAME - 1, &verdict, text, sizeof text, &needed);
 
@@ -289,34 +448,49 @@ static enum gate_answer tell(struct check *check, char *sentence, size_t room)
         put_sentence((const char *)text, needed, sentence, room);
     } else if (answer == PCLCHECK_ROOM) {
         snprintf(sentence, room, "this job fails by %u", verdict.number);
+        return GATE_FAILS;
     } else {
         put_trouble(answer, sentence, room);
         return GATE_NO_VERDICT;
     }
-    return verdict.number == 0 ? GATE_PASSES : GATE_FAILS;
+    return check->answer == PCLCHECK_DONE && verdict.number == 0 ? GATE_PASSES : GATE_FAILS;
 }
 
-enum gate_answer gate_check(struct pclcheck_fleet *fleet, int job, unsigned copies, int *spool,
+/* Checks a job by a session that has begun. */
+static enum gate_answer check_copies(struct check *check, char *sentence, size_t room)
+{
+    const char *trouble = feed_copies(check);
+
+    if (trouble == NULL)
+        return tell(check, sentence, room);
+    snprintf(sentence, room, "%s", trouble);
+    return trouble == OTHER_LANGUAGE ? GATE_FAILS : GATE_NO_VERDICT;
+}
+
+enum gate_answer gate_check(struct pclcheck_fleet *fleet, const struct gate_job *job, int *spool,
                             char *sentence, size_t room)
 {
-    struct check check = {.fleet = fleet};
+    const char *any = getenv("PCLCHECK_ANY_LANGUAGE");
+    struct check check = {.fleet = fleet, .job = job, .spool = new_spool()};
     enum gate_answer answer = GATE_NO_VERDICT;
 
-    *spool = spool_of(job);
-    if (*spool < 0) {
-        snprintf(sentence, room, "the job could not be kept: %s", strerror(errno));
+    *spool = -1;
+    if (check.spool < 0) {
+        snprintf(sentence, room, "no verdict on this job: it cannot be kept: %s", strerror(errno));
         return answer;
     }
+    check.is_any_language = any != NULL && strcmp(any, "print") == 0;
     check.answer = pclcheck_session_new(fleet, 0, &check.session);
-    if (check.answer != PCLCHECK_DONE) {
+    if (check.answer == PCLCHECK_DONE) {
+        answer = check_copies(&check, sentence, room);
+        pclcheck_session_free(&check.session);
+    } else {
         put_trouble(check.answer, sentence, room);
-        return answer;
     }
-    if (feed_copies(&check, job, copies, *spool))
-        answer = tell(&check, sentence, room);
+    if (answer == GATE_PASSES)
+        *spool = check.spool;
     else
-        snprintf(sentence, room, "the job could not be read: %s", strerror(errno));
-    pclcheck_session_free(&check.session);
+        close(check.spool);
     return answer;
 }
 
@@ -328,7 +502,7 @@ bool gate_pass(int spool, unsigned copies, gate_put *put, void *to)
     for (unsigned at = 0; at < copies; at++) {
         if (lseek(spool, 0, SEEK_SET) != 0)
             return false;
-        while ((got = read_piece(spool, piece)) != 0) {
+        while ((got = read_some(spool, piece, sizeof piece)) != 0) {
             if (got < 0 || !put(to, piece, (size_t)got))
                 return false;
         }

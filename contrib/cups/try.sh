@@ -18,6 +18,8 @@ printf '\033*p+1500Y\033*c300a1500b0P' >"$cups/once.pcl"
 # shellcheck source=/dev/null
 . "$here/cups/try_alone.sh"
 # shellcheck source=/dev/null
+. "$here/cups/try_attacks.sh"
+# shellcheck source=/dev/null
 . "$here/cups/try_queue.sh"
 # shellcheck source=/dev/null
 . "$here/cups/try_filter.sh"

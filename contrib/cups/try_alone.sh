@@ -4,8 +4,10 @@
 alone=$cups/alone
 cat >"$alone/backend/stand-in" <<END
 #!/bin/sh
-# Keeps what the true backend gets: its words, its device URI, and the bytes that it would send.
+# Keeps what the true backend gets: its words, its device URI, the format of the job, and the bytes
+# that it would send.
 printf '%s\n' "\$DEVICE_URI" "\$@" >"$alone/words"
+printf '%s\n' "\${CONTENT_TYPE-}" "\${FINAL_CONTENT_TYPE-}" >"$alone/format"
 if [ \$# -eq 5 ]; then cat; else
     copies=\$4
     while [ "\$copies" -gt 0 ]; do
@@ -141,10 +143,14 @@ unset PCLCHECK_UNCHECKED
 # 35 KB whose macros would carry out 25 million items.
 say 'backend: macros with too many items' gate 3 /front/stand-in:x 1 "$work/items.pcl"
 say 'backend: are told' tells '(ERROR items)'
-say 'backend: are printed by the word print' gate 0 /front/print/stand-in:x 1 "$work/items.pcl"
-say 'backend: and as they are' sends "$work/items.pcl"
+say 'backend: are held with print, too' gate 3 /front/print/stand-in:x 1 "$work/items.pcl"
+say 'backend: and not sent' sends_nothing
+say 'backend: logged: they are printed' gate 0 /front/log/stand-in:x 1 "$work/items.pcl"
+say 'backend: logged: as they are' sends "$work/items.pcl"
+say 'backend: logged: and copied' cmp "$alone/log/front/7.pcl" "$work/items.pcl"
 
-# Its own troubles: with hold, or no word, the job is held; with print it is sent unchecked.
+# Its own troubles: with hold, or no word, the job is held. With print it is sent unchecked, unless
+# the job may be the reason.
 printf '#!/bin/sh\nkill -9 $$\n' >"$work/bin/killed"
 printf '#!/bin/sh\necho "-: this job has no verdict (ERROR memory)"\nexit 3\n' >"$work/bin/error"
 printf '#!/bin/sh\nulimit -v 2500\nexec "%s" "$@"\n' "$work/bin/pclcheck" >"$work/bin/small"
@@ -156,10 +162,20 @@ for PROGRAM in "$work/bin/gone" /bin/true /bin/false "$work/bin/killed" "$work/b
     say "$trouble: told" tells 'ERROR: preflight: no verdict on this job: status '
     say "$trouble: not sent" sends_nothing
     say "$trouble: held by its word" input 3 /shop/hold/stand-in:x "$job"
-    say "$trouble: printed by its word" gate 0 /shop/print/stand-in:x 1 "$job"
-    say "$trouble: as it is" sends "$job"
-    say "$trouble: printed from standard input" input 0 /shop/print/stand-in:x "$job"
-    say "$trouble: as it is" sends "$job"
+    case $PROGRAM in
+    *killed | *error | *small)
+        say "$trouble: held with print, too" gate 3 /shop/print/stand-in:x 1 "$job"
+        say "$trouble: not sent" sends_nothing
+        say "$trouble: held from standard input" input 3 /shop/print/stand-in:x "$job"
+        say "$trouble: not sent" sends_nothing
+        ;;
+    *)
+        say "$trouble: printed by its word" gate 0 /shop/print/stand-in:x 1 "$job"
+        say "$trouble: as it is" sends "$job"
+        say "$trouble: printed from standard input" input 0 /shop/print/stand-in:x "$job"
+        say "$trouble: as it is" sends "$job"
+        ;;
+    esac
     rm -f "$alone/log/shop/7.pcl"
     say "$trouble: logged, printed" gate 0 /shop/log/stand-in:x 1 "$job"
     say "$trouble: as it is" sends "$job"
@@ -201,7 +217,7 @@ for word in /shop/ /shop/print/; do
         input 3 "${word}stand-in:x" "$examples/invoice.pcl"
 done
 UNDER=
-for copies in '' 0 two 2x -1; do
+for copies in '' 0 two 2x -1 10000 99999999999999999999; do
     say "backend: '$copies' copies: held" gate 3 /shop/stand-in:x "$copies" "$job"
 done
 

@@ -45,6 +45,7 @@ say 'filter: tried again with a fleet, it is printed' prints "$job"
 
 # A filter before this one writes into a pipe, whose job is kept in a file without a name.
 by_pipe() {                     # by_pipe QUEUE
+    # shellcheck disable=SC2002  # a pipe, and no file, is what is tried
     cat "$job" | PRINTER=$1 PCLCHECK_FLEETS=$cups/fleets "$work/bin/pclfilter" 1 user title 1 '' \
         >"$cups/piped" 2>"$cups/told"
 }
@@ -55,3 +56,6 @@ stops_pipe() {
 }
 say 'filter: a job that comes by a pipe is handed on' hands_on
 say 'filter: or stopped' stops_pipe
+
+# shellcheck source=/dev/null
+. "$here/cups/try_filter_attacks.sh"

@@ -1,10 +1,11 @@
 /* A printer application: takes jobs of PCL 5 by IPP, and hands those to a printer that each
    printer of the queue's fleet prints. A job that fails is aborted, and the sentence that says why
    is its job-state-message. */
-#define _DEFAULT_SOURCE
+#define _GNU_SOURCE
 #include "gate.h"
 
 #include <fcntl.h>
+#include <getopt.h>
 #include <pappl/pappl.h>
 #include <stdio.h>
 #include <stdlib.h>
@@ -16,7 +17,7 @@ static const char DRIVER[] = "pcl5";
 enum { DOTS_AN_INCH = 300, PAGES_A_MINUTE = 20 };
 
 static const char USAGE[] =
-    "Usage: pclprinter [-h HOST] [-p PORT] [-s FOLDER] [-l LOG] QUEUE=DEVICE ..\n"
+    "Usage: pclprinter [-h HOST] [-p PORT] [-s FOLDER] [-l LOG] [--any-language] QUEUE=DEVICE ..\n"
     "\n"
     "Takes jobs of PCL 5 at ipp://HOST:PORT/ipp/print/QUEUE, checks each for the printers of\n"
     "/etc/pclcheck/QUEUE.fleet, and hands it to DEVICE, as socket://10.0.0.7:9100, where it\n"
@@ -26,6 +27,8 @@ static const char USAGE[] =
     "  -p PORT    the port (8631)\n"
     "  -s FOLDER  where jobs are kept until they are printed (/var/spool/pclprinter)\n"
     "  -l LOG     a file for messages; - for standard error (-)\n"
+    "  --any-language  a job that is PostScript, PDF or PCL XL, or turns to one of them, is\n"
+    "             checked as PCL, too, in place of being aborted\n"
     "\n"
     "PCLCHECK_FLEETS names another folder of fleets.\n";
 
@@ -59,6 +62,11 @@ static bool put(void *to, const unsigned char *bytes, size_t length)
     return sent == length;
 }
 
+static bool is_cancelled(void *job)
+{
+    return papplJobIsCanceled(job);
+}
+
 static bool send_all(struct way *way, int spool, unsigned copies)
 {
     bool is_sent = gate_pass(spool, copies, put, way);
@@ -70,20 +78,18 @@ static bool send_all(struct way *way, int spool, unsigned copies)
 }
 
 /* Checks what the printer gets, all copies as one stream, and sends it where it passes. */
-static bool check_and_send(struct way *way, struct pclcheck_fleet *fleet, int file, unsigned copies)
+static bool check_and_send(struct way *way, struct pclcheck_fleet *fleet,
+                           const struct gate_job *job)
 {
     char sentence[1024];
-    bool is_sent = false;
+    bool is_sent;
     int spool;
 
-    if (gate_check(fleet, file, copies, &spool, sentence, sizeof sentence) != GATE_PASSES) {
-        abort_job(way->job, sentence);
-    } else {
-        papplLogJob(way->job, PAPPL_LOGLEVEL_INFO, "preflight: %s", sentence);
-        is_sent = send_all(way, spool, copies);
-    }
-    if (spool >= 0)
-        close(spool);
+    if (gate_check(fleet, job, &spool, sentence, sizeof sentence) != GATE_PASSES)
+        return abort_job(way->job, sentence);
+    papplLogJob(way->job, PAPPL_LOGLEVEL_INFO, "preflight: %s", sentence);
+    is_sent = send_all(way, spool, job->copies);
+    close(spool);
     return is_sent;
 }
 
@@ -92,20 +98,20 @@ static bool print_job(pappl_job_t *job, pappl_pr_options_t *options, pappl_devic
 {
     struct pclcheck_fleet fleet;
     struct way way = {job, device};
+    struct gate_job checked = {.copies = options->copies > 1 ? (unsigned)options->copies : 1,
+                               .is_cancelled = is_cancelled, .job = job};
     char cause[1024];
-    unsigned copies = options->copies > 1 ? (unsigned)options->copies : 1;
     bool is_printed = false;
-    int file;
 
     if (!gate_open(papplPrinterGetName(papplJobGetPrinter(job)), &fleet, cause, sizeof cause))
         return abort_job(job, cause);
-    file = open(papplJobGetFilename(job), O_RDONLY | O_CLOEXEC);
-    if (file < 0)
+    checked.file = open(papplJobGetFilename(job), O_RDONLY | O_CLOEXEC);
+    if (checked.file < 0) {
         abort_job(job, "the job could not be read");
-    else
-        is_printed = check_and_send(&way, &fleet, file, copies);
-    if (file >= 0)
-        close(file);
+    } else {
+        is_printed = check_and_send(&way, &fleet, &checked);
+        close(checked.file);
+    }
     pclcheck_fleet_free(&fleet);
     return is_printed;
 }
@@ -210,12 +216,13 @@ static bool add_printer(pappl_system_t *system, const char *word)
     return papplPrinterCreate(system, 0, queue, DRIVER, NULL, device + 1) != NULL;
 }
 
+/* There are no pages for browsers: in PAPPL 1.3 some of them end the process. */
 static int run(const struct words *words, int count, char *queues[])
 {
     static pappl_pr_driver_t drivers[] = {{DRIVER, "PCL 5 printer behind a check", NULL, NULL}};
     pappl_system_t *system = papplSystemCreate(
-        PAPPL_SOPTIONS_MULTI_QUEUE | PAPPL_SOPTIONS_WEB_INTERFACE, "pclprinter", words->port,
-        "_print,_universal", words->spool, words->log, PAPPL_LOGLEVEL_INFO, NULL, false);
+        PAPPL_SOPTIONS_MULTI_QUEUE, "pclprinter", words->port, "_print,_universal", words->spool,
+        words->log, PAPPL_LOGLEVEL_INFO, NULL, false);
 
     if (system == NULL)
         return EXIT_FAILURE;
@@ -236,15 +243,17 @@ static int run(const struct words *words, int count, char *queues[])
 
 int main(int argc, char *argv[])
 {
+    static const struct option LONG[] = {{"any-language", no_argument, NULL, 'a'}, {0}};
     struct words words = {"localhost", 8631, "/var/spool/pclprinter", "-"};
     int option;
 
-    while ((option = getopt(argc, argv, "h:p:s:l:")) != -1) {
+    while ((option = getopt_long(argc, argv, "h:p:s:l:", LONG, NULL)) != -1) {
         switch (option) {
         case 'h': words.host = optarg; break;
         case 'p': words.port = atoi(optarg); break;
         case 's': words.spool = optarg; break;
         case 'l': words.log = optarg; break;
+        case 'a': setenv("PCLCHECK_ANY_LANGUAGE", "print", 1); break;
         default: optind = argc; break;
         }
     }

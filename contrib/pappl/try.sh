@@ -16,9 +16,9 @@ say 'application: it is built' build_caller pclprinter "$here/pappl/pclprinter.c
     $(pkg-config --cflags --libs pappl)
 say 'application: a printer listens' start_printer "$applied/printer"
 served=$(free_port)
-start_application() {
+start_application() {           # start_application [OPTION..]
     PCLCHECK_FLEETS=$applied/fleets "$work/bin/pclprinter" -p "$served" -s "$applied/spool" \
-        -l "$applied/log" "front=$printer" "all=$printer" "broken=$printer" "gone=$printer" &
+        -l "$applied/log" "$@" "front=$printer" "all=$printer" "broken=$printer" "gone=$printer" &
     application=$!
     started="$started $application"
     soon is_open "$served"
@@ -67,7 +67,40 @@ submit gone "$job"
 say 'application: no such fleet: the job is aborted' \
     aborts gone "$applied/fleets/gone.fleet: No such file or directory"
 
-make_cups "$applied/cups"
+# Attacks: a job in another language, macros without an end, and a fleet that drops printers.
+printf '%%!PS' >"$applied/language.pcl"
+submit front "$applied/language.pcl"
+say 'attack: a job in another language is aborted' \
+    aborts front 'this job is PostScript, PDF or PCL XL, or turns to one of them'
+{
+    cat "$work/items.pcl"
+    yes "$(printf '\033&f2Y\033&f2X')" | head -n 2000 | tr -d '\n'
+} >"$applied/endless.pcl"
+submit front "$applied/endless.pcl"
+say 'attack: macros without an end are aborted' \
+    aborts front 'no verdict on this job: its macros carry out too many items'
+printf 'front_desk.profile\n\0\nexport_desk.profile\n' >"$applied/fleets/gone.fleet"
+submit gone "$examples/letter.pcl"
+say 'attack: a fleet with a zero byte: the job is aborted' \
+    aborts gone "$applied/fleets/gone.fleet: a zero byte"
+
+# A page that a browser asks for is none, and ends nothing.
+asks_for_pages() {
+    for page in '' addprinter front front/config config; do
+        python3 -c 'if True:
+            import sys, urllib.error, urllib.request
+            try:
+                urllib.request.urlopen(sys.argv[1], timeout=10)
+            except urllib.error.HTTPError:
+                pass' "http://localhost:$served/$page" || return
+    done
+    is_open "$served"
+}
+say 'attack: pages for browsers are asked for' asks_for_pages
+
+make_cups "$applied/cups" "SetEnv PCLCHECK $work/bin/pclcheck" \
+    "SetEnv PCLCHECK_FLEETS $applied/fleets"
+install -m 755 "$here/cups/pclgate" "$cups/bin/backend/pclgate"
 say 'application: a cupsd before it listens' start_cups
 for queue in front all; do
     lpadmin -p "$queue" -E -m raw -v "ipp://localhost:$served/ipp/print/$queue" 2>"$work/lpadmin"
@@ -78,6 +111,15 @@ say 'application: and CUPS knows' soon is_done
 print_job -d all "$examples/letter.pcl"
 say 'application: a job of lp that fails is aborted' \
     aborts all 'export-desk refuses this job at byte 2 on page 1'
+lpadmin -p gated -E -m raw -v "pclgate:/front/ipp://localhost:$served/ipp/print/front" \
+    2>"$work/lpadmin"
+print_job -d gated "$examples/letter.pcl"
+say 'application: behind the backend for CUPS a job is printed, too' \
+    prints front "$examples/letter.pcl"
 unset CUPS_SERVER
 end "$application"
 say 'application: it ends when it is told to' is_equal "$status" 0
+say 'attack: with --any-language it listens again' start_application --any-language
+submit front "$applied/language.pcl"
+say 'attack: and a job in another language is checked as PCL' prints front "$applied/language.pcl"
+end "$application"
