@@ -25,6 +25,7 @@ const SECONDS_PER_MEGABYTE = 0.2;
 
 /** @type {Task[]} */
 let waiting = [];
+let asked = 0;
 /** @type {(share: number, name: string) => void} */
 let tellReading = () => {};
 
@@ -82,15 +83,21 @@ class Lane {
     if (this.worker) return this.worker;
     const worker = new Worker(source);
     worker.onmessage = ({ data }) => this.hear(data);
-    worker.onerror = () => this.end(errorNamed("Died", say("workerDied")));
+    worker.onerror = () => {
+      if (this.worker === worker) this.end(errorNamed("Died", say("workerDied")));
+    };
     worker.postMessage({ module: compiled });
     this.worker = worker;
     return worker;
   }
 
-  /** @param {{ read?: number, value?: any, failure?: { name: string, message: string } }} data */
-  hear({ read, value, failure }) {
-    if (!this.task) return;
+  /**
+   * Takes what a worker says of its task; of one that was given up it may still come.
+   * @typedef {{ name: string, message: string }} Failure
+   * @param {{ number: number, read?: number, value?: any, failure?: Failure }} data
+   */
+  hear({ number, read, value, failure }) {
+    if (this.task?.question.number !== number) return;
     const { question, resolve, reject } = this.task;
     if (read) {
       tellReading(read / (question.job?.file.size ?? read), question.given.at(-1));
@@ -151,7 +158,7 @@ export function onReading(tell) {
 export function ask(call, given, job = null, how = { isCheck: false, printers: 1 }) {
   const megabytes = (job?.file.size ?? 0) / (1 << 20);
   const seconds = SECONDS + SECONDS_PER_MEGABYTE * megabytes * how.printers;
-  const question = { call, given, job: job && { id: job.id, file: job.file } };
+  const question = { number: ++asked, call, given, job: job && { id: job.id, file: job.file } };
   return new Promise((resolve, reject) => {
     waiting.push({ question, isLook: !how.isCheck, seconds, resolve, reject });
     for (const lane of lanes) lane.next();

@@ -19,8 +19,8 @@ from pathlib import Path
 WEB = Path(__file__).resolve().parent
 IMPORT = re.compile(r'^import (?:\{[^}]*\} from )?"\./([\w.]+)";\n', re.MULTILINE)
 EXPORT = re.compile(r"^export (?=(?:async function|function|const|let|class)\b)", re.MULTILINE)
-# What a text in the page ends with.
-ENDS = {"@STYLE@": "</style", "@WORKER@": "</script", "@SCRIPT@": "</script"}
+# What may not be in a text of the page: what ends it there, and what changes how it is read.
+ENDS = {"@STYLE@": r"</style", "@WORKER@": r"</script|<!--", "@SCRIPT@": r"</script|<!--"}
 
 
 def bundle(name: str, packed: set[str]) -> str:
@@ -58,8 +58,8 @@ def packed_page(module: bytes) -> str:
     for mark, text in parts.items():
         if page.count(mark) != 1:
             raise ValueError(f"page.html has to have {mark} once")
-        if mark in ENDS and ENDS[mark] in text:
-            raise ValueError(f"what stands for {mark} ends itself by {ENDS[mark]}")
+        if mark in ENDS and (end := re.search(ENDS[mark], text, re.IGNORECASE)):
+            raise ValueError(f"what stands for {mark} has {end[0]} in it")
         page = page.replace(mark, text)
     return page.replace("@POLICY@", policy(page))
 

@@ -29,6 +29,8 @@ import { say } from "./texts.js";
 export const TOGETHER = "";
 const KEPT = "pclcheck";
 const PROFILE_START = "pclprofile";
+/** Of a longer file enough is read for the library to refuse it: 65,536 bytes are allowed. */
+const ENOUGH_OF_PROFILE = 65536 + 16;
 
 export const state = {
   version: "",
@@ -155,7 +157,7 @@ export async function addFiles(files) {
   let isProfile = false;
   for (const file of files) {
     if ((await startOf(file)) === PROFILE_START) {
-      await addProfile(file.name, await file.text());
+      await addProfile(file.name, await file.slice(0, ENOUGH_OF_PROFILE).text());
       isProfile = true;
     } else {
       state.jobs.push({ id: ++count, name: file.name, file, results: new Map() });

@@ -3,12 +3,18 @@ import { Module } from "./module.js";
 import { marksOf } from "./marks.js";
 
 /**
- * What the page asks: a call, what it is given, and the job of which it is.
- * @typedef {{ call: string, given: any[], job: { id: number, file: Blob } | null }} Question
+ * What the page asks: a call, what it is given, and the job of which it is. The answer has its
+ * number.
+ * @typedef {object} Question
+ * @property {number} number
+ * @property {string} call
+ * @property {any[]} given
+ * @property {{ id: number, file: Blob } | null} job
  */
 
 const PROGRESS_STEP = 4 << 20;
 const MOST_PICTURE = 8 << 20;
+const CHANGED = "the file has changed since it was chosen";
 
 /** @type {Module} */
 let checker;
@@ -40,9 +46,12 @@ const CALLS = {
   },
 };
 
-// The bytes of a job, read once for calls that follow each other.
-/** @param {Question["job"]} job */
-async function readJob(job) {
+// The bytes of a job, read once for calls that follow each other: as many as the file has.
+/**
+ * @param {Question["job"]} job
+ * @param {number} number
+ */
+async function readJob(job, number) {
   if (!job) return new Uint8Array();
   if (held.id === job.id) return held.bytes;
   held = { id: 0, bytes: new Uint8Array() };
@@ -52,25 +61,27 @@ async function readJob(job) {
   for (;;) {
     const { done, value } = await reader.read();
     if (done) break;
+    if (value.length > bytes.length - at) throw new Error(CHANGED);
     bytes.set(value, at);
     at += value.length;
-    if (at - told > PROGRESS_STEP) postMessage({ read: (told = at) });
+    if (at - told > PROGRESS_STEP) postMessage({ number, read: (told = at) });
   }
+  if (at !== bytes.length) throw new Error(CHANGED);
   held = { id: job.id, bytes };
   return bytes;
 }
 
 /** @param {MessageEvent<Question & { module?: WebAssembly.Module }>} event */
-self.onmessage = async ({ data: { module, call, given, job } }) => {
+self.onmessage = async ({ data: { module, number, call, given, job } }) => {
   if (module) {
     checker = new Module(module);
     return;
   }
   try {
-    const bytes = await readJob(job);
-    postMessage({ value: CALLS[call](bytes, ...given) });
+    const bytes = await readJob(job, number);
+    postMessage({ number, value: CALLS[call](bytes, ...given) });
   } catch (error) {
     const { name, message } = error instanceof Error ? error : new Error(String(error));
-    postMessage({ failure: { name, message } });
+    postMessage({ number, failure: { name, message } });
   }
 };
