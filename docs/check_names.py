@@ -11,7 +11,7 @@ import sys
 from pathlib import Path
 
 ROOT = Path(__file__).resolve().parent.parent
-DOCUMENTS = ("DEFINITIONS", "PROOFS", "BELIEVE", "DECISIONS", "GLOSSARY", "ARCHITECTURE")
+DOCUMENTS = ("DEFINITIONS", "PROOFS", "BELIEVE", "DECISIONS", "GLOSSARY", "ADDING", "ARCHITECTURE")
 NAME = re.compile(r"`([A-Za-z]\w*)`")
 LINK = re.compile(r"\]\(([^)#:\s]+)(?:#[^)]*)?\)")
 IS_NAME = re.compile(r"_|[a-z][A-Z]")
